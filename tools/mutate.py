@@ -1,9 +1,10 @@
 #!/usr/bin/env python3
-"""Runs the program on random mutations of the examples: each must end with one of its statuses.
+"""Runs the program on random mutations of the examples and of a text with a body of all kinds (all_kinds.py): each must end with
+one of its statuses.
 
-Bytes are flipped, cut out and doubled, keys dropped, numbers changed, lists cut. What is asked for is the last
-function that the example has. Prints how often each status came, and fails at a crash, a hang (10 seconds), a status that is none of the program's, and
-output at a status that writes none.
+Bytes are flipped, cut out and doubled, keys dropped, numbers changed, lists cut, entries of lists put in the place of others. What is
+asked for is the last function that an example has, and any of the text with all kinds. Prints how often each status came, and fails at
+a crash, a hang (10 seconds), a status that is none of the program's, and output at a status that writes none.
 Usage: tools/mutate.py [COUNT [SEED]]      (20000, 1 where none is given)
 Build the program first: cd crates/infer_tool && rt run -- table fn 0 < ../../examples/first_run.json
 """
@@ -15,6 +16,8 @@ import random
 import subprocess
 import sys
 from concurrent.futures import ThreadPoolExecutor
+
+import all_kinds
 
 TOP = os.path.dirname(os.path.dirname(os.path.abspath(__file__)))
 PROGRAM = os.path.join(TOP, "crates", "infer_tool", "out", "infer_tool")
@@ -40,7 +43,7 @@ def change(rng, value):
     for step in path[:-1]:
         inside = inside[step]
     old = inside[path[-1]]
-    kind = rng.randrange(6)
+    kind = rng.randrange(7)
     if kind == 0:
         del inside[path[-1]]
     elif kind == 1 and isinstance(old, int) and not isinstance(old, bool):
@@ -50,7 +53,9 @@ def change(rng, value):
     elif kind == 3 and isinstance(old, list):
         inside[path[-1]] = old + old[:1]
     elif kind == 4:
-        inside[path[-1]] = rng.choice([None, True, 0, "", [], {}, "_", ["lit", ["bool", True]]])
+        inside[path[-1]] = rng.choice([None, True, 0, "", [], {}, "_", "missing", ["lit", ["bool", True]], ["t", 0], ["c", "_"]])
+    elif kind == 5 and isinstance(inside, list):
+        inside[path[-1]] = rng.choice(inside)
     elif isinstance(inside, dict):
         inside[rng.choice(["name", "at", "more"])] = old
     return value
@@ -92,13 +97,16 @@ def main():
     count = int(sys.argv[1]) if len(sys.argv) > 1 else 20000
     rng = random.Random(int(sys.argv[2]) if len(sys.argv) > 2 else 1)
     texts = [open(name, "rb").read() for name in sorted(glob.glob(os.path.join(TOP, "examples", "*.json")))]
+    every = json.dumps(all_kinds.facts()).encode()
+    texts += [every] * 4
     seen = collections.Counter()
     wrong = 0
     numbers = [len(json.loads(text)["fns"]) - 1 for text in texts]  # the last function calls those before it
     chosen = [rng.randrange(len(texts)) for _ in range(count)]
+    asked = [rng.randrange(2) if texts[at] is every else numbers[at] for at in chosen]
     batch = [mutated(rng, texts[at]) for at in chosen]
     with ThreadPoolExecutor(4) as pool:
-        for text, answer in zip(batch, pool.map(attempt, batch, [numbers[at] for at in chosen])):
+        for text, answer in zip(batch, pool.map(attempt, batch, asked)):
             status, out, err = answer
             seen[status] += 1
             fine = (status in REPORTS and out.endswith(b"\n") and not err) or (status in SILENT and not out and err)

@@ -1,6 +1,7 @@
 //! The facts of a resolved crate: the laws that they obey, and what inference reads of them.
 #![tactic(auto)]
 
+mod carried_body;
 mod facts;
 mod laws;
 mod lower;
@@ -8,13 +9,16 @@ mod plain_body;
 mod plain_marks;
 mod sized;
 
+pub use carried_body::{is_carried_binding, is_carried_body, is_carried_expr, is_carried_pat};
 pub use facts::Facts;
 pub use hir_raw;
 pub use hir_raw::{
-    BindingAnnotation, Edition, Other, RawAdt, RawAdtKind, RawAlias, RawArgs, RawArm, RawAssocType,
-    RawAt, RawBinding, RawBody, RawCtor, RawExpr, RawFacts, RawField, RawFn, RawGoal, RawImpl,
-    RawLang, RawLimits, RawLiteral, RawParam, RawPat, RawPath, RawStmt, RawTrait, RawTraitRef,
-    RawType, RawVariant, RawVis, Schedule, fn_aliases, fn_arity, let_aliases, variant_aliases,
+    ArithOp, BinaryOp, BindingAnnotation, CmpOp, Edition, LaterExpr, LaterLiteral, LaterPat,
+    LaterPath, LogicOp, Other, RawAdt, RawAdtKind, RawAlias, RawArg, RawArgs, RawArm, RawAssocType,
+    RawAt, RawBinding, RawBody, RawClosureParam, RawConst, RawCtor, RawExpr, RawFacts, RawField,
+    RawFn, RawGoal, RawImpl, RawLang, RawLimits, RawLiteral, RawParam, RawPat, RawPath,
+    RawRecordField, RawRecordFieldPat, RawStmt, RawTrait, RawTraitRef, RawType, RawVariant,
+    RawVariantPath, RawVis, Schedule, UnaryOp, fn_aliases, fn_arity, let_aliases, variant_aliases,
     variant_arity,
 };
 pub use hir_types::{

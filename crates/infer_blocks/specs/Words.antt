@@ -13,7 +13,7 @@ pub use Rattle.hir_types.specs.declared.ids.TypeRefId.{TypeRefId}
 pub use Rattle.hir_types.specs.declared.ty.GenericArg.{GenericArg}
 pub use Rattle.hir_types.specs.declared.ty.Ty.{Ty}
 pub use Rattle.infer_pat.specs.Words.{is_alias, alias_is_hole, other_is_itself, IsInBody, IsSchedule, Node, Part, Role, after, body_parts, end, expr_part, initializer, inner, let_pattern, maybe_part, param_parts, parameter, pat_part, root, start, statement, stmt_at, stmt_parts, stmts_of, stmts_parts, tail, the_body, Scope, scope_of, StandsIn, filled, filled_by, filled_type, in_part, is_itself, type_parts, RawBody, RawExpr, RawFacts, RawStmt, RawType, Schedule}
-pub use Rattle.infer_pat.specs.Words.{HasBody, IsWalkable, body_of, is_carried_body, is_carried_stmt, IsCarriedType, carried_error, same_carried, AllHold, BreaksAt, filled_agree, filled_folded, ChildrenBefore, FirstBroken, IsLawful, PassesAll, Test, says, tests, type_ids, masked_before, IsLiteral, filled_parts, most_above, FactsList, Law}
+pub use Rattle.infer_pat.specs.Words.{HasBody, HasCarriedBody, IsWalkable, body_id_of, body_of, is_carried_body, is_carried_stmt, IsCarriedType, carried_error, same_carried, AllHold, BreaksAt, filled_agree, filled_folded, ChildrenBefore, FirstBroken, IsLawful, PassesAll, Test, says, tests, type_ids, masked_before, IsLiteral, filled_parts, most_above, FactsList, Law}
 pub use Rattle.infer_pat.specs.Words.{HasMadeIf, Grew, HolesAreOf, State, hole_count, new_state, with_new_hole}
 pub use Rattle.infer_pat.specs.Words.{Each}
 pub use Rattle.infer_pat.specs.Words.{system, Answer}

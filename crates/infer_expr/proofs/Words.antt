@@ -1,5 +1,5 @@
 -- What this crate takes from those below it.
-pub use Rattle.infer_blocks.proofs.Words.{body_in_range}
+pub use Rattle.infer_blocks.proofs.Words.{asked_is_carried, carried_has_body, body_in_range}
 pub use Rattle.infer_blocks.proofs.Words.{grew_by_hole}
 pub use Rattle.infer_blocks.proofs.Words.{none_counted}
 pub use Rattle.infer_needs.proofs.Holding.{same_body}

@@ -5,6 +5,7 @@ pub use Rattle.infer_blocks.specs.Words.infer_result
 pub use Rattle.infer_blocks.specs.Words.infer_ctx
 pub use Rattle.hir_types.specs.Own.{fallback, Assignment, folded}
 pub use Rattle.hir_types.specs.declared.goal.Goal.{Goal}
+pub use Rattle.hir_types.specs.declared.ids.BodyId.{BodyId}
 pub use Rattle.hir_types.specs.declared.ids.DefWithBodyId.{DefWithBodyId}
 pub use Rattle.hir_types.specs.declared.ids.ExprId.{ExprId}
 pub use Rattle.hir_types.specs.declared.ids.ExprOrPatId.{ExprOrPatId}
@@ -12,7 +13,7 @@ pub use Rattle.hir_types.specs.declared.ids.GenericDefId.{GenericDefId}
 pub use Rattle.hir_types.specs.declared.ids.PatId.{PatId}
 pub use Rattle.hir_types.specs.declared.ty.Ty.{Ty}
 pub use Rattle.infer_blocks.specs.Words.{IsInBody, IsSchedule, Part, body_parts, end, expr_part, inner, param_parts, parameter, pat_part, root, start, the_body, Scope, scope_of, RawBody, RawExpr, RawFacts, Schedule}
-pub use Rattle.infer_blocks.specs.Words.{HasBody, IsWalkable, body_of, carried_error, AllHold, BreaksAt, FirstBroken, IsLawful, PassesAll, Test, says, tests, IsLiteral, FactsList, Law}
+pub use Rattle.infer_blocks.specs.Words.{HasBody, HasCarriedBody, IsWalkable, body_id_of, body_of, carried_error, AllHold, BreaksAt, FirstBroken, IsLawful, PassesAll, Test, says, tests, IsLiteral, FactsList, Law}
 pub use Rattle.infer_blocks.specs.Words.{HasMadeIf, Grew, HolesAreOf, State, new_state}
 pub use Rattle.infer_blocks.specs.Words.{Each}
 pub use Rattle.infer_blocks.specs.Words.{system, Answer}

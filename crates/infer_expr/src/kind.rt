@@ -101,6 +101,6 @@ pub fn infer_expr_of_kind<
                 expected,
             )
         }
-        RawExpr::Other => unreachable!(),
+        RawExpr::Later(_) => unreachable!(),
     }
 }

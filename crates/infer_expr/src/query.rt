@@ -1,6 +1,6 @@
 //! Inference of a body, from its facts to its table.
 ghost use Rattle.std.specs.Prelude.{◌≡◌, IfOk, Some};
-ghost use Rattle.infer_expr.specs.Words.{RawBody, HasBody, body_of, IsTableOf, given, HasGeneral, GoalsHold, HasNoneLeft, AllWrittenAreListed, EntriesFit, AreAllAnswered, HearsAll, IsToldAll, RootsAreNeeded, at_exit, EndsWell, IsSelectedBody, ComesOfSelection};
+ghost use Rattle.infer_expr.specs.Words.{RawBody, HasCarriedBody, body_of, IsTableOf, given, HasGeneral, GoalsHold, HasNoneLeft, AllWrittenAreListed, EntriesFit, AreAllAnswered, HearsAll, IsToldAll, RootsAreNeeded, at_exit, EndsWell, IsSelectedBody, ComesOfSelection};
 
 use crate::body::infer_body;
 use infer_blocks::hir_facts::{DefWithBodyId, Facts, Goal};
@@ -19,7 +19,7 @@ fn infer_holes(
     facts: &Facts,
     def: DefWithBodyId,
 ) -> Result<InferenceContext<'_>, AllocError>
-    requires { HasBody facts.now def }
+    requires { HasCarriedBody facts.now def }
     ensures ends { IfOk result (λ context. EndsWell facts.now def context) }
     ensures selected { IfOk result (λ context. (b : RawBody) → body_of facts.now def ≡ Some b → IsSelectedBody facts.now def b context) }
 {
@@ -52,7 +52,7 @@ fn infer_with_goals(
     facts: &Facts,
     def: DefWithBodyId,
 ) -> Result<(InferenceResult, Vec<(Goal, Answer)>), AllocError>
-    requires { HasBody facts.now def }
+    requires { HasCarriedBody facts.now def }
     ensures table { IfOk result (λ made. IsTableOf facts.now def made.0) }
     ensures general { IfOk result (λ made. HasGeneral facts.now def made.0) }
     ensures goals { IfOk result (λ made. (b : RawBody) → body_of facts.now def ≡ Some b → GoalsHold def (given facts.now def b) made.0) }
@@ -75,7 +75,7 @@ fn infer_untold(
     facts: &Facts,
     def: DefWithBodyId,
 ) -> Result<InferenceResult, AllocError>
-    requires { HasBody facts.now def }
+    requires { HasCarriedBody facts.now def }
     ensures table { IfOk result (λ table. IsTableOf facts.now def table) }
     ensures general { IfOk result (λ table. HasGeneral facts.now def table) }
     ensures goals { IfOk result (λ table. (b : RawBody) → body_of facts.now def ≡ Some b → GoalsHold def (given facts.now def b) table) }
@@ -96,7 +96,7 @@ fn infer_told<I: ObligationInspector>(
     def: DefWithBodyId,
     inspect: &mut I,
 ) -> Result<InferenceResult, AllocError>
-    requires { HasBody facts.now def }
+    requires { HasCarriedBody facts.now def }
     ensures table { IfOk result (λ table. IsTableOf facts.now def table) }
     ensures general { IfOk result (λ table. HasGeneral facts.now def table) }
     ensures goals { IfOk result (λ table. (b : RawBody) → body_of facts.now def ≡ Some b → GoalsHold def (given facts.now def b) table) }
@@ -112,8 +112,8 @@ fn infer_told<I: ObligationInspector>(
     Ok(table)
 }
 
-/// The table of a definition's body: `infer.rs`, `infer_query_with_inspect`. Its one error is want
-/// of memory. What nodes need is selected before open holes fall back, and binds holes of bodies that are not
+/// The table of a definition's body, which is of kinds that are carried: `infer.rs`, `infer_query_with_inspect`. Its one error is
+/// want of memory. What nodes need is selected before open holes fall back, and binds holes of bodies that are not
 /// plain. It is proved, or it is said that it has no proof, once all types are known, and the inspector is told of
 /// each of these goals with its answer. In no type of the table is an associated type left that could be read,
 /// unless the table says what it is; nor is one of which it does not say so in what the definition takes and gives, in the
@@ -127,7 +127,7 @@ pub fn infer_query_with_inspect<I: ObligationInspector>(
     def: DefWithBodyId,
     inspect: Option<&mut I>,
 ) -> Result<InferenceResult, AllocError>
-    requires { HasBody facts.now def }
+    requires { HasCarriedBody facts.now def }
     ensures table { IfOk result (λ table. IsTableOf facts.now def table) }
     ensures general { IfOk result (λ table. HasGeneral facts.now def table) }
     ensures goals { IfOk result (λ table. (b : RawBody) → body_of facts.now def ≡ Some b → GoalsHold def (given facts.now def b) table) }

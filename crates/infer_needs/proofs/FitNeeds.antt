@@ -44,7 +44,7 @@ same_test m n is = grind arith
 
 module _ (raw : RawFacts) (law : IsLawful raw) where
   aliases_exist : AllHold (AliasIdsExist raw) raw.aliases
-  aliases_exist = law.all.1.1.1.1.1.1.1.1.1.1.1.1.1.1.1.1.1.1.0
+  aliases_exist = law.all.1.1.1.1.1.1.1.1.1.1.1.1.1.1.1.1.1.0
 
   many_taken : (k : TypeAliasId) (ws : List TypeRefId) → k.0 < length raw.aliases → length ws ≡ counts.alias_params raw (slice_get raw.aliases k.0) → has_params (alias_params raw k) (length ws) ≡ true
   many_taken k ws within many =
@@ -78,7 +78,6 @@ module _ (raw : RawFacts) (law : IsLawful raw) where
   path_right (path.Function f) = fn_right f.0
   path_right (path.Ctor v) = variant_right (slice_get raw.variants v.0)
   path_right (path.Local v) = λ k g at. absurd (cc)
-  path_right path.Other = λ k g at. absurd (cc)
 
   expr_right : (x : RawExpr) → AreRight raw (expr_preds raw x)
   expr_right (expr.Path p) = path_right p
@@ -129,7 +128,6 @@ module _ (raw : RawFacts) (law : IsLawful raw) where
     path_fits (path.Function f) = fn_fits f.0 (slice_get raw.fns f.0) refl
     path_fits (path.Local v) = tt
     path_fits (path.Ctor v) = variant_fits v.0 (slice_get raw.variants v.0) refl
-    path_fits path.Other = tt
 
     alias_needs_fit : (x : RawExpr) → Each (GoalIsFit raw n) (alias_goals raw xs x)
     alias_needs_fit (expr.Path p) = path_fits p

@@ -2,7 +2,7 @@
 use Rattle.std.specs.Prelude.{◌≡◌, ℕ, List, slice_get, Option, Some, None}
 use Rattle.std.specs.HashMap.{HashMap, get}
 use Rattle.infer_needs.specs.Words.{Ty}
-use Rattle.infer_needs.proofs.Words.{ty_eq}
+use Rattle.hir_types.proofs.Equal.{ty_eq}
 
 -- the associated type is listed as this type; or as none
 abbrev pub FindsIn : List (Ty × Ty) → Ty → Option Ty → Type 0

@@ -36,7 +36,6 @@ abbrev pub path_preds : RawFacts → RawPath → List RawGoal
 path_preds raw (path.Local v) = []
 path_preds raw (path.Function f) = env_preds raw (generic.FunctionId f)
 path_preds raw (path.Ctor v) = variant_preds raw (slice_get raw.variants v.0)
-path_preds raw path.Other = []
 
 abbrev pub expr_preds : RawFacts → RawExpr → List RawGoal
 expr_preds raw (expr.Path p) = path_preds raw p

@@ -1,11 +1,12 @@
 -- When a run must end with a table, and when as one without.
-use Rattle.std.specs.Prelude.{◌≡◌, ◌<◌, ◌≤◌, ◌⊎◌, ◌∷◌, [], ℕ, zero, suc, List, length, Some, Ok, Err, Result, refl}
+use Rattle.std.specs.Prelude.{◌≡◌, ◌<◌, ◌≤◌, ◌⊎◌, ◌∷◌, [], ℕ, zero, suc, List, length, Option, Some, IsSome, Ok, Err, Result, refl}
 use Rattle.std.proofs.Common.{arith, sym, ◌∙◌, subst, inl, inr}
-use Rattle.infer_run.specs.Words.{RawFacts, Law, FactsList, HasBody, AllHold, BreaksAt, Test, PassesAll, FirstBroken, says, tests, Fault, no_json, shape, raw_facts}
+use Rattle.infer_run.specs.Words.{BodyId, RawFacts, Law, FactsList, HasBody, HasCarriedBody, AllHold, BreaksAt, Test, PassesAll, FirstBroken, says, tests, Fault, no_json, shape, raw_facts}
 use Rattle.infer_run.specs.Words.hir_facts.declared.laws.Law.TheVariants as law
 use Rattle.infer_run.specs.Words.hir_facts.declared.laws.FactsList.TheVariants as list
-use Rattle.infer_run.specs.Own.{Ran, Exactly, IsGiven, IsGivenFacts, limit, Ends, HasFacts, TookAll, Outcome}
+use Rattle.infer_run.specs.Own.{Ran, Exactly, IsGiven, IsGivenFacts, limit, Ends, HasFacts, TookAll, BreaksLaw, AsksLater, Outcome}
 use Rattle.infer_text.specs.Facts.{IsRead}
+use Rattle.infer_run.proofs.Words.{carried_has_body}
 use Rattle.infer_run.proofs.Consequences.{no_source_fault, no_sink_fault, same_definition, took_text, not_too_long}
 
 -- ---- lawful facts break no law
@@ -73,11 +74,29 @@ module _ (words : List (List ℕ)) (e : Ends) (ran : Ran) (o : Outcome words e r
     not_misshapen : ran.status ≡ 7 → ⊥
     not_misshapen is = let x = o.misshapen is in err_is_not a.raw (shape x.path) (raw_facts x.text) (stands_at x.text x.took) x.stands
 
-    not_unlawful : ran.status ≡ 8 → ⊥
-    not_unlawful is =
-        let x = o.unlawful is in
+    breaks_none : BreaksLaw e ran → ⊥
+    breaks_none x =
         let same : x.stands.raw ≡ a.raw = ok_is x.stands.raw a.raw (raw_facts x.text) x.stands.stands (stands_at x.text x.took) in
         none_broken a.raw tests x.law x.list x.index a.is_read.lawful.all (subst (λ r. FirstBroken r tests x.law x.list x.index) same x.stands.first)
+
+    -- a law that is broken is that of the asked body
+    asks_later : ran.status ≡ 8 → AsksLater words e ran
+    asks_later is = elim (o.unlawful is) [ inl x ↦ absurd (breaks_none x) | inr x ↦ x ]
+
+    -- which is not carried here
+    not_carried : AsksLater words e ran → HasCarriedBody a.raw a.given.def → ⊥
+    not_carried x has =
+        let raw : a.raw ≡ x.raw = ok_is a.raw x.raw (raw_facts x.text) (stands_at x.text x.took) x.is_read.stands in
+        let def : a.given.def ≡ x.def = same_definition words a.given.def x.def a.given.command x.command in
+        x.is_later.later (subst (λ d. HasCarriedBody x.raw d) def (subst (λ r. HasCarriedBody r a.given.def) raw has))
+
+    -- and it is one
+    has_later : AsksLater words e ran → HasBody a.raw a.given.def
+    has_later x =
+        let raw : a.raw ≡ x.raw = ok_is a.raw x.raw (raw_facts x.text) (stands_at x.text x.took) x.is_read.stands in
+        let def : a.given.def ≡ x.def = same_definition words a.given.def x.def a.given.command x.command in
+        let there : HasBody x.raw x.def = subst (λ (b : Option BodyId). IsSome b) (sym x.is_later.is_body) refl in
+        subst (λ r. HasBody r a.given.def) (sym raw) (subst (λ d. HasBody x.raw d) (sym def) there)
 
     -- the facts and the definition that were found are these
     same_raw : (x : HasFacts words e ran) → a.raw ≡ x.raw
@@ -89,10 +108,10 @@ module _ (words : List (List ℕ)) (e : Ends) (ran : Ran) (o : Outcome words e r
     has_body_there : (x : HasFacts words e ran) → HasBody a.raw a.given.def → HasBody x.raw x.def
     has_body_there x has = subst (λ d. HasBody x.raw d) (same_def x) (subst (λ r. HasBody r a.given.def) (same_raw x) has)
 
-    has_body_here : (x : HasFacts words e ran) → HasBody x.raw x.def → HasBody a.raw a.given.def
-    has_body_here x has = subst (λ r. HasBody r a.given.def) (sym (same_raw x)) (subst (λ d. HasBody x.raw d) (sym (same_def x)) has)
+    carried_here : (x : HasFacts words e ran) → HasCarriedBody x.raw x.def → HasCarriedBody a.raw a.given.def
+    carried_here x has = subst (λ r. HasCarriedBody r a.given.def) (sym (same_raw x)) (subst (λ d. HasCarriedBody x.raw d) (sym (same_def x)) has)
 
-    by_status : (n : ℕ) → ran.status ≡ n → n ≤ 10 → (n ≤ 1) ⊎ (n ≡ 5) ⊎ (n ≡ 9)
+    by_status : (n : ℕ) → ran.status ≡ n → n ≤ 10 → (n ≤ 1) ⊎ (n ≡ 5) ⊎ (n ≡ 8) ⊎ (n ≡ 9)
     by_status zero is le = inl (omega arith)
     by_status (suc zero) is le = inl (omega arith)
     by_status (suc (suc zero)) is le = absurd (o.no_command.0 is a.given.def a.given.command)
@@ -101,23 +120,33 @@ module _ (words : List (List ℕ)) (e : Ends) (ran : Ran) (o : Outcome words e r
     by_status (suc (suc (suc (suc (suc zero))))) is le = inr (inl refl)
     by_status (suc (suc (suc (suc (suc (suc zero)))))) is le = absurd (not_json is)
     by_status (suc (suc (suc (suc (suc (suc (suc zero))))))) is le = absurd (not_misshapen is)
-    by_status (suc (suc (suc (suc (suc (suc (suc (suc zero)))))))) is le = absurd (not_unlawful is)
-    by_status (suc (suc (suc (suc (suc (suc (suc (suc (suc zero))))))))) is le = inr (inr refl)
+    by_status (suc (suc (suc (suc (suc (suc (suc (suc zero)))))))) is le = inr (inr (inl refl))
+    by_status (suc (suc (suc (suc (suc (suc (suc (suc (suc zero))))))))) is le = inr (inr (inr refl))
     by_status (suc (suc (suc (suc (suc (suc (suc (suc (suc (suc zero)))))))))) is le = absurd (not_too_long words e ran a.text o a.given.tells a.short is)
     by_status (suc (suc (suc (suc (suc (suc (suc (suc (suc (suc (suc n))))))))))) is le = absurd (omega arith)
 
-    makes_table : HasBody a.raw a.given.def → (ran.status ≤ 1) ⊎ (ran.status ≡ 5)
+    makes_table : HasCarriedBody a.raw a.given.def → (ran.status ≤ 1) ⊎ (ran.status ≡ 5)
     makes_table has = elim (by_status ran.status refl o.kinds) [
       | inl few ↦ inl few
       | inr (inl memory) ↦ inr memory
-      | inr (inr none) ↦ (let x = o.body none in absurd (x.no_body (has_body_there x.found has)))
+      | inr (inr (inl later)) ↦ absurd (not_carried (asks_later later) has)
+      | inr (inr (inr none)) ↦ (let x = o.body none in absurd (x.no_body (has_body_there x.found (carried_has_body a.raw a.given.def has))))
+    ]
+
+    says_later : HasBody a.raw a.given.def → (HasCarriedBody a.raw a.given.def → ⊥) → (ran.status ≡ 8) ⊎ (ran.status ≡ 5)
+    says_later has lacks = elim (by_status ran.status refl o.kinds) [
+      | inl few ↦ (let x = (o.done few).found in absurd (lacks (carried_here x.facts x.inferred.has_body)))
+      | inr (inl memory) ↦ inr memory
+      | inr (inr (inl later)) ↦ inl later
+      | inr (inr (inr none)) ↦ (let x = o.body none in absurd (x.no_body (has_body_there x.found has)))
     ]
 
     says_no_body : (HasBody a.raw a.given.def → ⊥) → (ran.status ≡ 9) ⊎ (ran.status ≡ 5)
     says_no_body lacks = elim (by_status ran.status refl o.kinds) [
-      | inl few ↦ (let x = (o.done few).found in absurd (lacks (has_body_here x.facts x.inferred.has_body)))
+      | inl few ↦ (let x = (o.done few).found in absurd (lacks (carried_has_body a.raw a.given.def (carried_here x.facts x.inferred.has_body))))
       | inr (inl memory) ↦ inr memory
-      | inr (inr none) ↦ inl none
+      | inr (inr (inl later)) ↦ absurd (lacks (has_later (asks_later later)))
+      | inr (inr (inr none)) ↦ inl none
     ]
 
   -- ---- a text that is too long
@@ -139,7 +168,10 @@ module _ (words : List (List ℕ)) (e : Ends) (ran : Ran) (o : Outcome words e r
     long_by_status (suc (suc (suc (suc (suc zero))))) is le = inr refl
     long_by_status (suc (suc (suc (suc (suc (suc zero)))))) is le = (let x = o.json is in absurd (not_whole x.text x.took))
     long_by_status (suc (suc (suc (suc (suc (suc (suc zero))))))) is le = (let x = o.misshapen is in absurd (not_whole x.text x.took))
-    long_by_status (suc (suc (suc (suc (suc (suc (suc (suc zero)))))))) is le = (let x = o.unlawful is in absurd (not_whole x.text x.took))
+    long_by_status (suc (suc (suc (suc (suc (suc (suc (suc zero)))))))) is le = elim (o.unlawful is) [
+      | inl x ↦ absurd (not_whole x.text x.took)
+      | inr x ↦ absurd (not_whole x.text x.took)
+    ]
     long_by_status (suc (suc (suc (suc (suc (suc (suc (suc (suc zero))))))))) is le = (let x = (o.body is).found in absurd (not_whole x.text x.took))
     long_by_status (suc (suc (suc (suc (suc (suc (suc (suc (suc (suc zero)))))))))) is le = inl refl
     long_by_status (suc (suc (suc (suc (suc (suc (suc (suc (suc (suc (suc n))))))))))) is le = absurd (omega arith)
@@ -147,6 +179,7 @@ module _ (words : List (List ℕ)) (e : Ends) (ran : Ran) (o : Outcome words e r
   pub exactly : Exactly words e ran
   exactly = record {
     table = makes_table;
+    later = says_later;
     no_body = says_no_body;
     too_long = λ text g long. long_by_status text g long ran.status refl o.kinds;
   }

@@ -1,10 +1,10 @@
 -- How a run ends, whole.
-use Rattle.std.proofs.Common.{◌≡◌, ◌≤◌, ◌<◌, nat_lt, length, ℕ, zero, suc, List, true, Option, Some, None, Err, is_some, refl, sym, ◌∙◌, ap, subst, arith}
+use Rattle.std.proofs.Common.{◌≡◌, ◌⊎◌, inl, inr, ◌≤◌, ◌<◌, nat_lt, length, ℕ, zero, suc, List, true, Option, Some, None, Err, is_some, refl, sym, ◌∙◌, ap, subst, arith}
 use Rattle.std.proofs.lemmas.Bool.Decides.{nat_tests}
 use Rattle.std.specs.Prelude.{if◌then◌else◌}
 use Rattle.std.specs.Io.KnownBytes.{Appends, Consumes, IsAtEnd, Keeps}
-use Rattle.infer_run.specs.Words.{HasBody, InferenceResult, report, complaint_count, IsTableOf, HasGeneral, DefWithBodyId, RawFacts, ReadError}
-use Rattle.infer_run.specs.Own.{Rose, Ran, IsCommand, Ends, TookAll, HasFacts, HasGoals, IsReadThrough, HasWritten, HasAskedProofs, HasFitEntries, IsSelectedTable, Reported, SourceFailed, SinkFailed, IsNoJson, IsMisshapen, BreaksLaw, HasNoBody, IsTooLong, Outcome, IsInferred, AppendsFront, has_facts, has_table, has_fault, Answered, is_answer, refusal}
+use Rattle.infer_run.specs.Words.{BodyId, HasCarriedBody, body_id_of, InferenceResult, report, complaint_count, IsTableOf, HasGeneral, DefWithBodyId, RawFacts, ReadError}
+use Rattle.infer_run.specs.Own.{Rose, Ran, IsCommand, Ends, TookAll, HasFacts, HasGoals, IsReadThrough, HasWritten, HasAskedProofs, HasFitEntries, IsSelectedTable, Reported, SourceFailed, SinkFailed, IsNoJson, IsMisshapen, BreaksLaw, AsksLater, HasNoBody, IsTooLong, Outcome, IsInferred, AppendsFront, has_facts, has_table, has_fault, Answered, is_answer, later_fault, refusal}
 use Rattle.infer_text.specs.declared.fault.ReadError.TheVariants as error
 use Rattle.infer_text.specs.Facts.{IsRead, Reads}
 
@@ -18,7 +18,7 @@ AtStatus words e ran (suc (suc (suc (suc zero)))) = SinkFailed words e ran
 AtStatus words e ran (suc (suc (suc (suc (suc zero))))) = ran.fault ≡ Some error.OutOfMemory
 AtStatus words e ran (suc (suc (suc (suc (suc (suc zero)))))) = IsNoJson e ran
 AtStatus words e ran (suc (suc (suc (suc (suc (suc (suc zero))))))) = IsMisshapen e ran
-AtStatus words e ran (suc (suc (suc (suc (suc (suc (suc (suc zero)))))))) = BreaksLaw e ran
+AtStatus words e ran (suc (suc (suc (suc (suc (suc (suc (suc zero)))))))) = BreaksLaw e ran ⊎ AsksLater words e ran
 AtStatus words e ran (suc (suc (suc (suc (suc (suc (suc (suc (suc zero))))))))) = HasNoBody words e ran
 AtStatus words e ran (suc (suc (suc (suc (suc (suc (suc (suc (suc (suc zero)))))))))) = IsTooLong e
 AtStatus words e ran (suc (suc (suc (suc (suc (suc (suc (suc (suc (suc (suc n))))))))))) = ⊥
@@ -86,7 +86,7 @@ module _ (words : List (List ℕ)) (e : Ends) (def : DefWithBodyId) (command : I
   by_fault (error.Shape path) text took reads written =
       whole words e (refusal (error.Shape path)) (record { text = text; took = took; path = path; stands = reads; fault_is = refl }) (named 7) (λ h k. written) refl refl refl
   by_fault (error.Unlawful law list index) text took reads written =
-      whole words e (refusal (error.Unlawful law list index)) (record { text = text; took = took; law = law; list = list; index = index; stands = reads; fault_is = refl }) (named 8) (λ h k. written) refl refl refl
+      whole words e (refusal (error.Unlawful law list index)) (inl (record { text = text; took = took; law = law; list = list; index = index; stands = reads; fault_is = refl })) (named 8) (λ h k. written) refl refl refl
 
   -- it stands for lawful facts
   module _ (text : List ℕ) (took : TookAll e text) (raw : RawFacts) (is_read : IsRead text raw) (ran : Ran) (a : Answered def raw e.written e.written_new e.writes e.writes_new ran) where
@@ -109,7 +109,8 @@ module _ (words : List (List ℕ)) (e : Ends) (def : DefWithBodyId) (command : I
     answered (suc (suc (suc (suc (suc zero))))) is h = a.memory is
     answered (suc (suc (suc (suc (suc (suc zero)))))) is h = absurd (cc)
     answered (suc (suc (suc (suc (suc (suc (suc zero))))))) is h = absurd (cc)
-    answered (suc (suc (suc (suc (suc (suc (suc (suc zero)))))))) is h = absurd (cc)
+    answered (suc (suc (suc (suc (suc (suc (suc (suc zero)))))))) is h =
+        inr (record { def = def; command = command; text = text; took = took; raw = raw; is_read = is_read; is_later = a.later is })
     answered (suc (suc (suc (suc (suc (suc (suc (suc (suc zero))))))))) is h = record { found = with_facts (ap has_facts is); no_body = a.body is }
     answered (suc (suc (suc (suc (suc (suc (suc (suc (suc (suc zero)))))))))) is h = absurd (cc)
     answered (suc (suc (suc (suc (suc (suc (suc (suc (suc (suc (suc n))))))))))) is h = absurd (no_answer n h)
@@ -126,6 +127,24 @@ kept (Some xs) = refl
 pub read_whole : (e : Ends) (text items : List ℕ) → text ≡ items → (length items ≤ 16777216) × Consumes e.left e.left_new items × IsAtEnd e.left_new → TookAll e text
 read_whole e text items is (short, consumed, ended) = record { took = record { short = rw is short; consumed = rw is consumed }; ended = ended }
 
+-- ---- a body that is not carried
+
+pub by_later : (def : DefWithBodyId) (raw : RawFacts) (body : BodyId) (old new : Option (List ℕ)) (before now : ℕ) → body_id_of raw def ≡ Some body → (HasCarriedBody raw def → ⊥) → Keeps old new → Answered def raw old new before now (refusal (later_fault body))
+by_later def raw body old new before now is_body lacks keeps =
+    record {
+      done = λ le. absurd (omega arith);
+      sink = λ is. absurd (omega arith);
+      memory = λ is. absurd (omega arith);
+      later = λ is. record { body = body; is_body = is_body; later = lacks; fault_is = refl };
+      body = λ is. absurd (omega arith);
+      silent = λ le differs. keeps;
+      kinds = refl;
+      facts_is = λ h. absurd (cc);
+      facts = refl;
+      table = refl;
+      fault = refl;
+    }
+
 -- ---- a report that is written
 
 status_zero : (n : ℕ) → n ≤ 0 → (if nat_lt 0 n then 1 else 0) ≡ zero
@@ -134,7 +153,7 @@ status_zero n le = grind (arith, nat_tests)
 status_one : (n : ℕ) → 0 < n → (if nat_lt 0 n then 1 else 0) ≡ suc zero
 status_one n lt = grind (arith, nat_tests)
 
-module _ (def : DefWithBodyId) (raw : RawFacts) (table : InferenceResult) (has_body : HasBody raw def) (typed : IsTableOf raw def table) (general : HasGeneral raw def table) (goals : HasGoals raw def table) (left : IsReadThrough raw def table) (written : HasWritten raw def table) (roots : HasAskedProofs raw def table) (fit : HasFitEntries raw def table) (selected : IsSelectedTable raw def table) (old new : Option (List ℕ)) (before now : ℕ) where
+module _ (def : DefWithBodyId) (raw : RawFacts) (table : InferenceResult) (has_body : HasCarriedBody raw def) (typed : IsTableOf raw def table) (general : HasGeneral raw def table) (goals : HasGoals raw def table) (left : IsReadThrough raw def table) (written : HasWritten raw def table) (roots : HasAskedProofs raw def table) (fit : HasFitEntries raw def table) (selected : IsSelectedTable raw def table) (old new : Option (List ℕ)) (before now : ℕ) where
   abbrev pub ran_with : ℕ → Ran
   ran_with n = record { status = n; facts = Some raw; table = Some table; fault = None }
 
@@ -147,6 +166,7 @@ module _ (def : DefWithBodyId) (raw : RawFacts) (table : InferenceResult) (has_b
         done = λ le. absurd (omega arith);
         sink = λ is. record { rose = rose; inferred = inferred 4; wrote = wrote };
         memory = λ is. absurd (omega arith);
+        later = λ is. absurd (omega arith);
         body = λ is. absurd (omega arith);
         silent = λ le differs. absurd (differs refl);
         kinds = refl;
@@ -162,6 +182,7 @@ module _ (def : DefWithBodyId) (raw : RawFacts) (table : InferenceResult) (has_b
         done = λ le. record { inferred = inferred 0; wrote = wrote; status_is = sym (status_zero (complaint_count table) none) };
         sink = λ is. absurd (omega arith);
         memory = λ is. absurd (omega arith);
+        later = λ is. absurd (omega arith);
         body = λ is. absurd (omega arith);
         silent = λ le differs. absurd (omega arith);
         kinds = refl;
@@ -177,6 +198,7 @@ module _ (def : DefWithBodyId) (raw : RawFacts) (table : InferenceResult) (has_b
         done = λ le. record { inferred = inferred 1; wrote = wrote; status_is = sym (status_one (complaint_count table) some) };
         sink = λ is. absurd (omega arith);
         memory = λ is. absurd (omega arith);
+        later = λ is. absurd (omega arith);
         body = λ is. absurd (omega arith);
         silent = λ le differs. absurd (omega arith);
         kinds = refl;

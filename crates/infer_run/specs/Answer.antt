@@ -5,7 +5,7 @@ use Rattle.infer_run.specs.Words.{DefWithBodyId, RawFacts, HasBody, report, Read
 use Rattle.infer_text.specs.declared.fault.ReadError.TheVariants as error
 use Rattle.infer_run.specs.declared.running.Ran.{Ran}
 use Rattle.infer_run.specs.Causes.{Rose}
-use Rattle.infer_run.specs.Outcome.{AppendsFront, IsInferred, status_of, has_facts, has_table, has_fault}
+use Rattle.infer_run.specs.Outcome.{AppendsFront, IsInferred, IsLater, status_of, has_facts, has_table, has_fault}
 
 -- the report was written, all of it
 pub record IsWhole (def : DefWithBodyId) (raw : RawFacts) (old new : Option (List ℕ)) (ran : Ran) : Type 0 where
@@ -20,12 +20,13 @@ pub record IsCut (def : DefWithBodyId) (raw : RawFacts) (old new : Option (List 
   pub wrote : AppendsFront old new (report def raw inferred.table)
 
 abbrev pub is_answer : ℕ → Bool
-is_answer n = nat_le n 1 || (n == 4 || (n == 5 || n == 9))
+is_answer n = nat_le n 1 || (n == 4 || (n == 5 || (n == 8 || n == 9)))
 
 pub record Answered (def : DefWithBodyId) (raw : RawFacts) (old new : Option (List ℕ)) (before now : ℕ) (ran : Ran) : Type 0 where
   pub done : ran.status ≤ 1 → IsWhole def raw old new ran
   pub sink : ran.status ≡ 4 → IsCut def raw old new before now ran
   pub memory : ran.status ≡ 5 → ran.fault ≡ Some error.OutOfMemory
+  pub later : ran.status ≡ 8 → IsLater def raw ran
   pub body : ran.status ≡ 9 → HasBody raw def → ⊥
   pub silent : 2 ≤ ran.status → (ran.status ≡ 4 → ⊥) → Keeps old new
   pub kinds : is_answer ran.status ≡ true

@@ -1,6 +1,6 @@
 -- When a run must end as it did: over ends that do not fail each cause has its status, but for want of memory.
 use Rattle.std.specs.Prelude.{◌≡◌, ◌<◌, ◌≤◌, ◌-◌, ◌^◌, ◌⊎◌, ℕ, List, length, Some}
-use Rattle.infer_run.specs.Words.{DefWithBodyId, RawFacts, HasBody}
+use Rattle.infer_run.specs.Words.{DefWithBodyId, RawFacts, HasBody, HasCarriedBody}
 use Rattle.infer_text.specs.Facts.{IsRead}
 use Rattle.infer_run.specs.declared.running.Ran.{Ran}
 use Rattle.infer_run.specs.Command.{IsCommand}
@@ -28,10 +28,12 @@ pub record IsGivenFacts (words : List (List ℕ)) (e : Ends) : Type 0 where
   pub raw : RawFacts
   pub is_read : IsRead text raw
 
--- Lawful facts give a table where the definition has a body there, and else it is said that it has none; of a
--- text that is too long that is said.
+-- Lawful facts give a table where the definition has a body there that is carried, and else it is said that its body is not, or
+-- that it has none; of a text that is too long that is said.
 pub record Exactly (words : List (List ℕ)) (e : Ends) (ran : Ran) : Type 0 where
-  pub table : (x : IsGivenFacts words e) → HasBody x.raw x.given.def → (ran.status ≤ 1) ⊎ (ran.status ≡ 5)
+  pub table : (x : IsGivenFacts words e) → HasCarriedBody x.raw x.given.def → (ran.status ≤ 1) ⊎ (ran.status ≡ 5)
+  pub later : (x : IsGivenFacts words e) → HasBody x.raw x.given.def → (HasCarriedBody x.raw x.given.def → ⊥) → (ran.status ≡ 8)
+      ⊎ (ran.status ≡ 5)
   pub no_body : (x : IsGivenFacts words e) → (HasBody x.raw x.given.def → ⊥) → (ran.status ≡ 9)
       ⊎ (ran.status ≡ 5)
   pub too_long : (text : List ℕ) → IsGiven words e text → limit < length text → (ran.status ≡ 10)

@@ -1,8 +1,10 @@
 -- What a run of the command does, by the status that it ends with.
-use Rattle.std.specs.Prelude.{◌≡◌, ◌==◌, ◌||◌, ◌&&◌, ◌<◌, ◌≤◌, ◌+◌, ◌↔◌, ℕ, List, length, take, Bool, Option, Some, Err, is_some, nat_lt, nat_le, if◌then◌else◌}
+use Rattle.std.specs.Prelude.{◌≡◌, ◌==◌, ◌||◌, ◌&&◌, ◌<◌, ◌≤◌, ◌+◌, ◌↔◌, ◌⊎◌, ℕ, List, length, take, Bool, Option, Some, Err, is_some, nat_lt, nat_le, if◌then◌else◌}
 use Rattle.std.specs.Io.KnownBytes.{Appends, Consumes, IsAtEnd, Keeps}
-use Rattle.infer_run.specs.Words.{DefWithBodyId, RawBody, RawFacts, Law, FactsList, HasBody, body_of, InferenceResult, IsTableOf, given, HasGeneral, GoalsHold, HasNoneLeft, AllWrittenAreListed, ComesOfSelection, EntriesFit, RootsAreNeeded, report, complaint_count, IsUnlawful, raw_facts, no_json, shape}
+use Rattle.infer_run.specs.Words.{BodyId, DefWithBodyId, RawBody, RawFacts, Law, FactsList, HasBody, HasCarriedBody, body_id_of, body_of, InferenceResult, IsTableOf, given, HasGeneral, GoalsHold, HasNoneLeft, AllWrittenAreListed, ComesOfSelection, EntriesFit, RootsAreNeeded, report, complaint_count, ReadError, IsUnlawful, raw_facts, no_json, shape}
 use Rattle.infer_text.specs.declared.fault.ReadError.TheVariants as error
+use Rattle.infer_run.specs.Words.hir_facts.declared.laws.Law.TheVariants as law
+use Rattle.infer_run.specs.Words.hir_facts.declared.laws.FactsList.TheVariants as list
 use Rattle.infer_run.specs.declared.running.Ran.{Ran}
 use Rattle.infer_run.specs.Causes.{Rose}
 use Rattle.infer_run.specs.Command.{IsCommand}
@@ -90,10 +92,10 @@ HasFitEntries raw def table = (b : RawBody) → body_of raw def ≡ Some b → E
 abbrev pub IsSelectedTable : RawFacts → DefWithBodyId → InferenceResult → Type 0
 IsSelectedTable raw def table = (b : RawBody) → body_of raw def ≡ Some b → ComesOfSelection raw def b table
 
--- the definition has a body, and this is its table, which has the types before open holes fell back exactly
+-- the definition has a body that is carried, and this is its table, which has the types before open holes fell back exactly
 -- where the body is plain, and what becomes of the goals of its nodes
 pub record IsInferred (def : DefWithBodyId) (raw : RawFacts) (ran : Ran) : Type 0 where
-  pub has_body : HasBody raw def
+  pub has_body : HasCarriedBody raw def
   pub table : InferenceResult
   pub typed : IsTableOf raw def table
   pub general : HasGeneral raw def table
@@ -163,6 +165,27 @@ pub record BreaksLaw (e : Ends) (ran : Ran) : Type 0 where
   pub stands : IsUnlawful text law list index
   pub fault_is : ran.fault ≡ Some (error.Unlawful law list index)
 
+-- law 0 is broken by this body
+abbrev pub later_fault : BodyId → ReadError
+later_fault body = error.Unlawful law.Carried list.Bodies body.0
+
+-- the definition has a body, which is not carried yet
+pub record IsLater (def : DefWithBodyId) (raw : RawFacts) (ran : Ran) : Type 0 where
+  pub body : BodyId
+  pub is_body : body_id_of raw def ≡ Some body
+  pub later : HasCarriedBody raw def → ⊥
+  pub fault_is : ran.fault ≡ Some (later_fault body)
+
+-- the words name such a definition of lawful facts
+pub record AsksLater (words : List (List ℕ)) (e : Ends) (ran : Ran) : Type 0 where
+  pub def : DefWithBodyId
+  pub command : IsCommand words def
+  pub text : List ℕ
+  pub took : TookAll e text
+  pub raw : RawFacts
+  pub is_read : IsRead text raw
+  pub is_later : IsLater def raw ran
+
 -- the definition is out of range or has no body
 pub record HasNoBody (words : List (List ℕ)) (e : Ends) (ran : Ran) : Type 0 where
   pub found : HasFacts words e ran
@@ -195,7 +218,7 @@ pub record Outcome (words : List (List ℕ)) (e : Ends) (ran : Ran) : Type 0 whe
   pub memory : ran.status ≡ 5 → ran.fault ≡ Some error.OutOfMemory
   pub json : ran.status ≡ 6 → IsNoJson e ran
   pub misshapen : ran.status ≡ 7 → IsMisshapen e ran
-  pub unlawful : ran.status ≡ 8 → BreaksLaw e ran
+  pub unlawful : ran.status ≡ 8 → BreaksLaw e ran ⊎ AsksLater words e ran
   pub body : ran.status ≡ 9 → HasNoBody words e ran
   pub long : ran.status ≡ 10 → IsTooLong e
   pub silent : 2 ≤ ran.status → (ran.status ≡ 4 → ⊥) → Keeps e.written e.written_new

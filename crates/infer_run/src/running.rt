@@ -2,12 +2,12 @@
 ghost use Rattle.std.specs.Prelude.{◌≡◌, ◌<◌, ◌≤◌, ◌+◌, ℕ, List, length, map, IfOk, OnOk, OnErr, IsErrOf, Some};
 ghost use Rattle.std.specs.Io.KnownBytes.{Appends, Consumes, IsAtEnd};
 ghost use Rattle.std.specs.Rc.{rc_str_bytes};
-ghost use Rattle.infer_run.specs.Words.{HasBody, IsTableOf, HasGeneral};
-ghost use Rattle.infer_run.specs.Own.{Rose, HasCause, AppendsFront, HasGoals, IsReadThrough, HasWritten, HasAskedProofs, HasFitEntries, IsSelectedTable, Outcome, between, Exactly, Answered, silence, refusal};
+ghost use Rattle.infer_run.specs.Words.{HasCarriedBody, IsTableOf, HasGeneral};
+ghost use Rattle.infer_run.specs.Own.{Rose, HasCause, AppendsFront, HasGoals, IsReadThrough, HasWritten, HasAskedProofs, HasFitEntries, IsSelectedTable, Outcome, between, Exactly, Answered, silence, refusal, later_fault};
 
 use crate::ends::{Failed, Sink, Source};
 use crate::words::command;
-use infer_expr::hir_facts::{DefWithBodyId, Facts};
+use infer_expr::hir_facts::{BodyId, DefWithBodyId, Facts, FactsList, Law};
 use infer_expr::infer_result::InferenceResult;
 use infer_expr::{ToldList, infer_query_with_inspect};
 use infer_report::{count_complaints, write_report};
@@ -127,7 +127,7 @@ fn report_on<K: Sink>(
     table: InferenceResult,
     sink: &mut K,
 ) -> Ran
-    requires has_body { HasBody facts def }
+    requires has_body { HasCarriedBody facts def }
     requires typed { IsTableOf facts def table }
     requires general { HasGeneral facts def table }
     requires goals { HasGoals facts def table }
@@ -154,17 +154,31 @@ fn report_on<K: Sink>(
     }
 }
 
-/// Infers a definition's table, and writes the report on it.
+/// The run that ends since a definition's body is not carried yet.
+fn later(body: BodyId) -> Ran
+    ensures { result ≡ refusal (later_fault body) }
+{
+    refused(ReadError::Unlawful {
+        law: Law::Carried,
+        list: FactsList::Bodies,
+        index: body.0 as usize,
+    })
+}
+
+/// Infers a definition's table, and writes the report on it, where it has a body that is carried.
 fn answer<K: Sink>(alloc: Global, def: DefWithBodyId, facts: Facts, sink: &mut K) -> Ran
     ensures { Answered def facts (K.written sink.old) (K.written sink.new) (K.faults sink.old) (K.faults sink.new) result }
 {
-    if !facts.has_body(def) {
+    let Some(body) = facts.body_id(def) else {
         return Ran {
             status: 9,
             facts: Some(facts),
             table: None,
             fault: None,
         };
+    };
+    if !facts.has_carried_body(def) {
+        return later(body);
     }
     match infer_query_with_inspect::<ToldList>(alloc, &facts, def, None) {
         Ok(table) => report_on(alloc, def, facts, table, sink),

@@ -4,6 +4,7 @@ use serde_json::Value;
 use serde_json::value::Map;
 use std::alloc::{AllocError, Global};
 use std::fmt;
+use told_bodies::shapes;
 use told_items::told_places::place::{Path, Quoted};
 
 /// The most bytes of a value that are shown.
@@ -181,11 +182,15 @@ pub fn told_shape(
     {
         return Ok(Some(told));
     }
+    let at = At(path);
+    let value = shown(alloc, value)?;
+    if let Some(wanted) = shapes::wanted(facts, path) {
+        let told = format!(in alloc; "{at} is {value}, and {wanted} is wanted")?;
+        return Ok(Some(told));
+    }
     match fault.split_once(" has another shape: ") {
         None => Ok(None),
         Some((_, wanted)) => {
-            let at = At(path);
-            let value = shown(alloc, value)?;
             let told = format!(in alloc; "{at} is {value}, and {wanted}")?;
             Ok(Some(told))
         }

@@ -1,8 +1,19 @@
-use Rattle.std.proofs.Common.{◌≡◌, ◌∙◌, ap, sym, subst}
-use Rattle.infer_expr.specs.Words.{RawBody, ItemSources, GoalTable, new_state, AreOwnTypes, AreLetTypes, given_by, IsSelectedBody}
-use Rattle.infer_expr.proofs.Words.{body_in_range, same_body, found_body, written_exist, inputs_for_params, output_carried, output_fine, has_all_types, kept_done, keeps_goals, kept_told, ends_selected, kept_of_body}
+use Rattle.std.proofs.Common.{◌≡◌, ◌∙◌, Option, None, ap, sym, subst}
+use Rattle.std.specs.Prelude.{IsSome}
+use Rattle.infer_expr.specs.Words.{BodyId, RawBody, body_id_of, ItemSources, GoalTable, new_state, AreOwnTypes, AreLetTypes, given_by, IsSelectedBody}
+use Rattle.infer_expr.proofs.Words.{asked_is_carried, carried_has_body, body_in_range, same_body, found_body, written_exist, inputs_for_params, output_carried, output_fine, has_all_types, kept_done, keeps_goals, kept_told, ends_selected, kept_of_body}
 use Rattle.infer_expr.proofs.Start.{sources_in, goals_at_start}
 use Rattle.infer_expr.proofs.query.infer_holes.Goals as goal
+
+-- the asked body is there
+pub unreachable-requires : goal.unreachable-requires
+unreachable-requires c =
+    let none : body_id_of c.args.facts.now c.args.def ≡ None = sym c.body_id.ensures ∙ c.in_default.is in
+    let some : IsSome None = subst (λ (o : Option BodyId). IsSome o) none (carried_has_body c.args.facts.now c.args.def c.requires) in
+    absurd (cc)
+
+pub own_types-requires-clause-body : goal.own_types-requires-clause-body
+own_types-requires-clause-body c = carried_has_body c.args.facts.now c.args.def c.requires
 
 pub body-body-requires : goal.body-body-requires
 body-body-requires c = body_in_range _ _ _ c.lawful.ensures (sym c.in-Some.ensures)
@@ -20,6 +31,11 @@ pub infer_body-requires-clause-count : goal.infer_body-requires-clause-count
 infer_body-requires-clause-count c =
     inputs_for_params c.args.facts.now c.args.def c.in-Some.id _ _ _ c.lawful.ensures (sym c.in-Some.ensures) c.body-body.ensures
     (subst (λ xs. AreOwnTypes c.args.facts.now c.args.def xs c.in_ok-own.own.output) (sym c.deref.ensures.value) c.in_ok-own.ensures)
+    (asked_is_carried c.args.facts.now c.args.def c.body-body.result.now c.requires (found_body c.args.facts.now c.args.def c.in-Some.id c.body-body.result.now (sym c.in-Some.ensures) c.body-body.ensures))
+
+pub infer_body-requires-clause-law : goal.infer_body-requires-clause-law
+infer_body-requires-clause-law c =
+    c.schedule.ensures.walkable _ c.body-body.ensures (asked_is_carried c.args.facts.now c.args.def c.body-body.result.now c.requires (found_body c.args.facts.now c.args.def c.in-Some.id c.body-body.result.now (sym c.in-Some.ensures) c.body-body.ensures))
 
 pub infer_body-requires-clause-carried : goal.infer_body-requires-clause-carried
 infer_body-requires-clause-carried c = output_carried c.args.facts.now c.args.def c.in-Some.id _ _ _ c.lawful.ensures (sym c.in-Some.ensures) c.body-body.ensures c.in_ok-own.ensures
@@ -34,7 +50,7 @@ pub let_types-requires-clause-item : goal.let_types-requires-clause-item
 let_types-requires-clause-item c = c.in_ok-context.ensures.goals.scope ∙ c.scope_item.ensures
 
 pub keep_general-requires : goal.keep_general-requires
-keep_general-requires c = has_all_types _ _ c.infer_body.new.context (c.schedule.ensures.walkable _ c.body-body.ensures) c.in_ok-infer_body.ensures.done
+keep_general-requires c = has_all_types _ _ c.infer_body.new.context (c.schedule.ensures.walkable _ c.body-body.ensures (asked_is_carried c.args.facts.now c.args.def c.body-body.result.now c.requires (found_body c.args.facts.now c.args.def c.in-Some.id c.body-body.result.now (sym c.in-Some.ensures) c.body-body.ensures))) c.in_ok-infer_body.ensures.done
 
 pub infer_body-requires-clause-goals : goal.infer_body-requires-clause-goals
 infer_body-requires-clause-goals c =
@@ -70,7 +86,7 @@ returns-clause-ends c = λ ps js gs hs. (
     let raw = c.args.facts.now in
     let d = c.args.def in
     let settled = c.in_ok-settle_where_possible.ensures in
-    ends_selected raw d c.in-Some.id c.body-body.result.now _ _ _ _ (sym c.in-Some.ensures) c.body-body.ensures (c.schedule.ensures.walkable _ c.body-body.ensures) (subst (λ xs. AreOwnTypes raw d xs c.in_ok-own.own.output) (sym c.deref.ensures.value) c.in_ok-own.ensures) (subst (AreLetTypes c.args.facts.now c.args.def c.body-body.result.now) (sym c.as_slice.ensures) c.in_ok-aliases.ensures) c.infer_body.new.context c.in_ok-infer_body.ensures.done c.lawful.ensures ps js gs hs
+    ends_selected raw d c.in-Some.id c.body-body.result.now _ _ _ _ (sym c.in-Some.ensures) c.body-body.ensures (c.schedule.ensures.walkable _ c.body-body.ensures (asked_is_carried c.args.facts.now c.args.def c.body-body.result.now c.requires (found_body c.args.facts.now c.args.def c.in-Some.id c.body-body.result.now (sym c.in-Some.ensures) c.body-body.ensures))) (subst (λ xs. AreOwnTypes raw d xs c.in_ok-own.own.output) (sym c.deref.ensures.value) c.in_ok-own.ensures) (subst (AreLetTypes c.args.facts.now c.args.def c.body-body.result.now) (sym c.as_slice.ensures) c.in_ok-aliases.ensures) c.infer_body.new.context c.in_ok-infer_body.ensures.done c.lawful.ensures ps js gs hs
     c.keep_general.new.context c.settle_where_possible.new.context c.in_ok-keep_general.ensures settled.only settled.plain settled.done)
 
 pub returns-clause-selected : goal.returns-clause-selected
