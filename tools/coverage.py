@@ -28,7 +28,8 @@ from type_view import UNKNOWN, views_of
 INTEGER = "{integer}"
 INTEGERS = re.compile(r"[iu](?:8|16|32|64|128|size)")
 OTHERS = re.compile(r"FnDef|Closure|Binder|Alias|Coroutine|dyn |extern|unsafe|\bfn |\{(?!integer)|impl ")
-DEFAULTS = re.compile(r", (?:Global|RandomState)\b")
+SUFFIXES = re.compile(r"/#\d+|(?<=\d)_%s\b" % INTEGERS.pattern)
+DEFAULTS = re.compile(r", (?:(?:Global|RandomState)\b|\(\)(?=>))")
 
 
 def expressions_in(part, bodies):
@@ -50,14 +51,13 @@ def expressions_in(part, bodies):
 def in_words(ty):
     """A type of rustc's as it stands in the source."""
     ty = re.sub(r"'\{?\w+\}?(?:, | )?", "", ty)
-    ty = re.sub(r"/#\d+|_usize\b", "", ty)
-    return DEFAULTS.sub("", re.sub(r"(?:\w+::)+(\w+)", r"\1", ty)).replace("<>", "")
+    return re.sub(r"(?:\w+::)+(\w+)", r"\1", SUFFIXES.sub("", ty)).replace("<>", "")
 
 
 def is_among(ty, theirs):
-    """Whether a type is among these, where `{integer}` is each integer type."""
-    pattern = re.escape(ty).replace(re.escape(INTEGER), INTEGERS.pattern)
-    return any(re.fullmatch(pattern, other) for other in theirs)
+    """Whether a type is among these, where `{integer}` is each integer type, and arguments that may be left away are."""
+    pattern = re.escape(DEFAULTS.sub("", ty)).replace(re.escape(INTEGER), INTEGERS.pattern)
+    return any(re.fullmatch(pattern, DEFAULTS.sub("", other)) for other in theirs)
 
 
 class Count:

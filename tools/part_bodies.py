@@ -305,9 +305,10 @@ class PartWriter(PartTypes, BodyWriter):
                 others.append(number)
             fields.setdefault(name, number)
         parts = [self.part(number) for number in others] + self.parts_in(kind[2])
-        call = ["call", self.made(["path", self.variant_path(*found)]),
-                [fields[name] if name in fields else self.made(self.unknown()) for name in names]]
-        return ["block", None, parts, self.made(call)] if parts else call
+        value = ["path", self.variant_path(*found)]
+        if name_of(self.items.adts[found[0]].variants[found[1]][1]) != "Unit":
+            value = ["call", self.made(value), [fields[name] if name in fields else self.made(self.unknown()) for name in names]]
+        return ["block", None, parts, self.made(value)] if parts else value
 
     def expr_Let(self, kind, span):
         """A `let` in a condition."""

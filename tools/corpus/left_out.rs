@@ -95,3 +95,9 @@ pub fn twice(size: Size) -> Option<Size> {
         other => Some(turn(other)),
     }
 }
+
+pub struct Unit;
+
+pub fn unit() -> Unit {
+    Unit {}
+}
