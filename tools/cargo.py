@@ -10,22 +10,25 @@ from hir_tree import OWN
 from rustc import QUIETLY
 from sources import Sources
 
-KINDS = ("lib", "rlib", "proc-macro", "bin")
+KINDS = ("lib", "rlib", "dylib", "cdylib", "staticlib", "proc-macro", "bin", "example")
 LOCAL = re.compile(r"(?<=DefId\(0:)(\d+) ~ \w+(?=\[)")
 PLACE = re.compile(r"(?m)^(\s*(?:\w+: )?)([^/\s][^:\n]*\.rs)(?=:\d+:\d+: \d+:\d+ \(#)")
 
 
-def cargo_tree(folder):
-    """The Tree of the crate in a package's folder: of its library, or else of its first program.
+def cargo_tree(folder, files=()):
+    """The Tree of the crate in a package's folder: of that whose root is among these files, or else of its library, or else
+    of its first program.
 
     Where cargo gives none, as where a dependency can't be had, rustc is asked alone.
     """
     package, root = package_of(folder)
-    target = min((of for of in package["targets"] if of["kind"][0] in KINDS), key=lambda of: KINDS.index(of["kind"][0]),
-                 default=None)
+    named = {os.path.realpath(file) for file in files}
+    target = min((of for of in package["targets"] if of["kind"][0] in KINDS), default=None,
+                 key=lambda of: (os.path.realpath(of["src_path"]) not in named, KINDS.index(of["kind"][0])))
     if target is None:
         raise NoFacts("the package in %s has no library and no program" % folder)
-    which = ["--bin", target["name"]] if target["kind"][0] == "bin" else ["--lib"]
+    kind = target["kind"][0]
+    which = ["--" + kind, target["name"]] if kind in ("bin", "example") else ["--lib"]
     # An option that no earlier call had, without which cargo would not ask rustc again.
     words = ["rustc", "--quiet", "--profile=check", "--manifest-path", package["manifest_path"], *which, "--",
              "-Zunpretty=hir-tree", *QUIETLY, "--cfg=asked_%d" % time.time_ns()]

@@ -82,6 +82,7 @@ class Items:
         self.traits, self.associated_types, self.impls, self.values = {}, {}, {}, {}  # of consts and statics the types
         self.impls_of = collections.defaultdict(list)  # the impls of each trait
         self.paths = {}  # the modules by their crates and paths
+        self.files = set()  # those in which modules of the file's crate stand
         self.others = []  # an Omission for each item of a kind that has no facts
 
     def read(self, owners):
@@ -91,6 +92,9 @@ class Items:
             if node.name == "Crate" or node.name == "Item" and name_of(node[0]["kind"]) == "Mod":
                 self.modules[item] = self.module_of(item)
                 self.paths[item[:2]] = item
+                span = span_of((node[0] if node.name == "Crate" else node[0]["kind"][1])["spans"]["inner_span"])
+                if item.crate == OWN and span is not None:
+                    self.files.add(span.file)
         members = {item: owner["node"]["node"][0] for item, owner in owners
                    if owner["node"]["node"].name in ("ImplItem", "TraitItem")}
         for item, owner in owners:

@@ -64,7 +64,7 @@ class CrateFacts:
             for item in items:
                 if item.crate == OWN and item not in self.refused:
                     number(item)
-        self.shown = [self.show(of) for of in self.items.functions.values() if is_shown(of)]
+        self.shown = [self.show(of) for of in self.items.functions.values() if self.is_shown(of)]
         self.shown.sort(key=lambda of: of.function.span)
         self.facts = self.all_facts()
         self.text = text_of(self.facts)
@@ -106,6 +106,11 @@ class CrateFacts:
         writer = BodyWriter(lists, function.generics, function.id.path)
         writer.place = function.span
         return writer
+
+    def is_shown(self, function):
+        """Whether a function has a body that stands in the source, or in that of an own macro by its own name."""
+        span = function.span
+        return function.body is not None and (not span.context or function.within == "module" and span.file in self.items.files)
 
     def show(self, function):
         """Writes a function's body, if nothing of the function is left out."""
@@ -294,11 +299,6 @@ def is_variadic(declared):
     return '"CVariadic"' in declared["fn_decl_kind"].fields.values()
 
 
-def is_shown(function):
-    """Whether a function has a body that stands in the source, or in that of a macro by its own name."""
-    return function.body is not None and (function.within == "module" or not function.span.context)
-
-
 def tree_of(path, edition, crate=OWN):
     """The Tree of the crate in a file; - is standard input."""
     sources, text = Sources(), None
@@ -332,7 +332,9 @@ def facts_of_tree(tree, in_part):
         if in_part:
             crate.write_in_part()
         return crate
-    except (OtherShape, AttributeError, IndexError, KeyError, TypeError, RecursionError) as shape:
+    except RecursionError:
+        raise NoFacts("what stands in %s nests too deep" % tree.path) from None
+    except (OtherShape, AttributeError, IndexError, KeyError, TypeError) as shape:
         raise NoFacts("the tree that %s makes of %s has another shape than that of rustc %s, with which this was tried: %s: %s"
                       % (version(), tree.path, TRIED, type(shape).__name__, shape)) from shape
 

@@ -10,7 +10,7 @@ A case is a block of lines, each a word and what follows it:
   made NAME         or one that is made here (MADE)
   set PATH VALUE    the value of JSON that stands at a path, as bodies[0].root; a list is added to at its length
   drop PATH         what is taken out of it
-  fails END         `input` or `output`, which fails (not asked of a build without proof)
+  fails END         `input` or `output`, which fails (not asked of a build without proof that is not kept)
   says N SENTENCE   the status, and what is said
 A line that begins with # is passed over.
 Usage: tools/sentences.py [--program PATH | --unproved] [--print]
@@ -30,6 +30,9 @@ import program
 
 CASES = os.path.join(program.TOP, "examples", "sentences.txt")
 FIRST = os.path.join(program.TOP, "examples", "first_run.json")
+
+# How long a run may take: a build without proof has no optimization, and reads the longest lists in a minute.
+SECONDS = 600
 
 
 def first_run():
@@ -170,7 +173,9 @@ def answer(path, case):
             del ends["input"]
             ends["stdin"] = os.open(program.TOP, os.O_RDONLY)
         try:
-            done = subprocess.run([path] + case.words, stderr=subprocess.PIPE, timeout=60, **ends)
+            done = subprocess.run([path] + case.words, stderr=subprocess.PIPE, timeout=SECONDS, **ends)
+        except subprocess.TimeoutExpired:
+            return -1, "", "nothing in %d seconds" % SECONDS
         finally:
             if "stdin" in ends:
                 os.close(ends["stdin"])
@@ -199,11 +204,11 @@ def main():
     parser.add_argument("--print", action="store_true", help="write what the program says, and compare nothing")
     options = parser.parse_args()
     cases = read_cases()
-    if options.unproved:
+    path = options.program or (program.Program(unproved=True).path if options.unproved else program.PROGRAM)
+    if path is None:
         cases = [case for case in cases if not case.fails]
         answers = answers_of_try(cases)
     else:
-        path = options.program or program.PROGRAM
         if not os.path.exists(path):
             sys.exit("there is no program at %s: build it (README), name one with --program, or give --unproved" % path)
         with ThreadPoolExecutor(2) as pool:

@@ -26,7 +26,8 @@ def options():
                                      formatter_class=argparse.RawDescriptionHelpFormatter)
     parser.add_argument("words", nargs="*", metavar="FILE.rs | FUNCTION")
     parser.add_argument("--cargo", metavar="DIR", nargs="?", const=os.curdir,
-                        help="show the crate of the cargo package in a folder, this one where none is named")
+                        help="show the crate of the cargo package in a folder, this one where none is named: of its library, or "
+                             "else of its first program, or that of which a FILE.rs is the root")
     parser.add_argument("--all-files", action="store_true",
                         help="show the files of all modules, as --cargo does where none is named")
     form = parser.add_mutually_exclusive_group()
@@ -57,14 +58,21 @@ def crate_of(given):
     """The CrateFacts of what is asked for."""
     if given.cargo is None:
         return facts_of(given.files[0], given.edition, not given.strict)
-    return facts_of_tree(cargo_tree(given.cargo), not given.strict)
+    return facts_of_tree(cargo_tree(given.cargo, given.files), not given.strict)
 
 
 def files_of(crate, given):
-    """The files to show, in their order; None where all those are that have functions."""
+    """The files to show, in their order."""
+    own = crate.items.files | {of.function.span.file for of in crate.shown} | {crate.path}
     if given.all_files or given.cargo is not None and not given.files:
-        return sorted({of.function.span.file for of in crate.shown} | {crate.path}, key=lambda file: (file != crate.path, file))
-    return [crate.path] if given.cargo is None else [os.path.normpath(file) for file in given.files]
+        return sorted(own, key=lambda file: (file != crate.path, file))
+    if given.cargo is None:
+        return [crate.path]
+    places = {os.path.realpath(file): file for file in own}
+    for file in given.files:
+        if os.path.realpath(file) not in places:
+            raise NoFacts("%s is no file of the crate of %s" % (file, crate.path))
+    return [places[os.path.realpath(file)] for file in given.files]
 
 
 def show(given):
@@ -73,12 +81,10 @@ def show(given):
     if crate.errors:
         print(crate.errors, file=sys.stderr)
     files = files_of(crate, given)
-    views = views_of(crate, Program(given.program, given.unproved), given.function, files)
+    views = [placed(of, files) for of in views_of(crate, Program(given.program, given.unproved), given.function, files)]
     if given.function is not None and not views:
         raise NoFacts("no function with a body in %s is called %s" % (", ".join(files), given.function))
-    omissions = [of for of in crate.omissions() if of.span is None or of.span.file in files]
-    if given.function is not None:
-        omissions = [omission for view in views for omission in view.shown.omissions]
+    omissions = omissions_of(given, crate, files, views)
     put(given, crate, files, views, omissions)
     tell_omissions(crate, views, omissions)
     tell_others(crate, files, given.function)
@@ -87,14 +93,28 @@ def show(given):
     return 1 if any(view.complaints for view in views) else 0
 
 
+def placed(view, files):
+    """A view with complaints at its function where they stand in files that are not shown, as a macro may have them."""
+    own = view.shown.function.span
+    return view._replace(complaints=[of if of.span.file in files else of._replace(span=own) for of in view.complaints])
+
+
+def omissions_of(given, crate, files, views):
+    """What is left out of what is asked for, by its place."""
+    omissions = {omission for view in views for omission in view.shown.omissions}
+    if given.function is None:
+        omissions.update(of for of in crate.omissions() if of.span is None or of.span.file in files)
+    return sorted(omissions, key=lambda of: (of.span or (), of.kind))
+
+
 def put(given, crate, files, views, omissions):
     """Writes the views in the form that is asked for."""
     if given.json:
         for line in json_lines(views, omissions):
             put_out(line)
         return
-    parts = [(file, crate.sources.lines(file), ranges_of(given.function, crate.sources.lines(file), in_file(views, file)),
-              in_file(views, file)) for file in files]
+    parts = [(file, crate.sources.lines(file), ranges_of(given.function, crate.sources.lines(file), file, views),
+              [in_file(view, file) for view in views]) for file in files]
     if given.html:
         with open(given.html, "w", encoding="utf-8") as out:
             out.write(page(crate.path, parts, outside_functions(crate, views, omissions), summary(views)))
@@ -102,20 +122,25 @@ def put(given, crate, files, views, omissions):
     for file, lines, ranges, of_file in parts:
         if len(files) > 1 and ranges:
             put_out("%s:" % file)
-        listing = Listing(lines, of_file, given.all, sys.stdout.isatty() and not os.environ.get("NO_COLOR"))
-        put_out("\n...\n".join("\n".join(listing.text(*of)) for of in ranges))
+        if ranges:
+            listing = Listing(file, lines, of_file, given.all, sys.stdout.isatty() and not os.environ.get("NO_COLOR"))
+            put_out("\n...\n".join("\n".join(listing.text(*of)) for of in ranges))
     put_out(summary(views))
 
 
-def in_file(views, file):
-    return [view for view in views if view.shown.function.span.file == file]
+def in_file(view, file):
+    """A view with what of it stands in a file: what a macro is given may stand in another than the function."""
+    return view._replace(**{kind: [of for of in getattr(view, kind) if of.span.file == file]
+                            for kind in ("nodes", "complaints", "remarks")})
 
 
-def ranges_of(function, lines, views):
+def ranges_of(function, lines, file, views):
     """The lines to show: all, or those of the functions that are asked for."""
     if function is None:
-        return [(1, len(lines) if lines and lines[-1] else len(lines) - 1)]
-    return [(view.shown.function.span.line, view.shown.function.span.end_line) for view in views]
+        last = len(lines) if lines and lines[-1] else len(lines) - 1
+        return [(1, last)] if last > 0 else []
+    spans = [view.shown.function.span for view in views]
+    return [(span.line, span.end_line) for span in spans if span.file == file]
 
 
 def outside_functions(crate, views, omissions):

@@ -39,8 +39,7 @@ class Sources:
 
     def derive_around(self, span):
         """The Span of the `derive` in whose parentheses something stands, or None."""
-        for number in range(span.line, 0, -1):
-            line = self.lines(span.file)[number - 1]
+        for number, line in reversed([*enumerate(self.lines(span.file)[:span.line], 1)]):
             line = line[:span.column - 1] if number == span.line else line
             found = list(DERIVE.finditer(line))
             if found:

@@ -19,16 +19,22 @@ def json_lines(views, omissions):
                 "typed": shown.writer is not None, "whole": shown.is_whole}
         yield json.dumps({**head, "left_out": [left_out(of) for of in shown.omissions]})
         for node in view.nodes:
-            yield json.dumps({"node": node.kind, "span": list(node.span[1:5]), "type": node.type})
+            yield json.dumps({"node": node.kind, **place(node.span, shown), "type": node.type})
         for name, found in (("complaint", view.complaints), ("remark", view.remarks)):
             for of in found:
-                yield json.dumps({name: of.name, "span": list(of.span[1:5]), "text": of.text})
+                yield json.dumps({name: of.name, **place(of.span, shown), "text": of.text})
     inside = {omission for view in views for omission in view.shown.omissions}
     for omission in omissions:
         if omission not in inside:
             yield json.dumps({"left_out": left_out(omission)})
     functions, typed, in_part = counts(views)
     yield json.dumps({"functions": functions, "typed": typed, "in_part": in_part})
+
+
+def place(span, shown):
+    """A place in an object, with its file where that is another than the function's."""
+    file = {} if span.file == shown.function.span.file else {"file": span.file}
+    return {**file, "span": list(span[1:5])}
 
 
 def left_out(omission):
@@ -40,15 +46,16 @@ def left_out(omission):
 class Listing:
     """The lines of a file, with a hint behind each binding and complaints below what they speak of.
 
-    `every` has the types of all expressions below them too.
+    The views have what stands in this file. `every` has the types of all expressions below them too.
     """
 
-    def __init__(self, lines, views, every=False, colored=False):
+    def __init__(self, file, lines, views, every=False, colored=False):
         self.lines, self.colored = lines, colored
         self.hints, self.marks = collections.defaultdict(list), collections.defaultdict(list)
         for view in views:
             span = view.shown.function.span
-            self.hints[span.line].append((len(lines[span.line - 1]) + 1, "  // " + standing(view.shown)))
+            if span.file == file:
+                self.hints[span.line].append((len(lines[span.line - 1]) + 1, "  // " + standing(view.shown)))
             for complaint in view.complaints:
                 text = "%s:%d:%d: %s: %s" % (*complaint.span[:3], complaint.name, complaint.text)
                 self.marks[complaint.span.line].append(Mark(complaint.span, "^", text, RED))

@@ -65,10 +65,13 @@ PAGE = """<!DOCTYPE html>
 
 
 class FilePage:
-    """The lines of a file in ranges, each from one number to another; `at` is the number of the file on the page."""
+    """The lines of a file in ranges, each from one number to another; `at` is the number of the file on the page.
 
-    def __init__(self, at, lines, ranges, views):
-        self.at, self.lines, self.ranges = at, lines, ranges
+    The views have what stands in this file.
+    """
+
+    def __init__(self, at, file, lines, ranges, views):
+        self.at, self.file, self.lines, self.ranges = at, file, lines, ranges
         self.tags, self.hints, self.notes = (collections.defaultdict(list) for _ in range(3))
         for view in views:
             self.add(view)
@@ -77,7 +80,8 @@ class FilePage:
         """Adds what was found in a function."""
         shown, bad = view.shown, {complaint.span for complaint in view.complaints}
         left_out = ["%d:%d: %s" % (*of.span[1:3], of.kind) for of in shown.omissions if of.span is not None]
-        self.notes[shown.function.span.line].append(details(standing(shown), left_out))
+        if shown.function.span.file == self.file:
+            self.notes[shown.function.span.line].append(details(standing(shown), left_out))
         for node in view.nodes:
             if node.kind == "binding" and not node.is_written:
                 self.hints[node.span.end_line, node.span.end_column].append(node.type)
@@ -133,7 +137,7 @@ def page(title, parts, left_out, summary):
     for at, (file, lines, ranges, views) in enumerate(parts):
         if len(parts) > 1:
             files.append("<h2>%s</h2>" % html.escape(file))
-        files.append(FilePage(at, lines, ranges, views).text())
+        files.append(FilePage(at, file, lines, ranges, views).text())
         complaints += [complaint_link(at, of) for view in views for of in view.complaints]
     listed = "<ul>%s</ul>" % "".join(complaints) if complaints else "<p>No complaint.</p>"
     items = details("left out of items: %d" % len(left_out), left_out) if left_out else ""
