@@ -42,11 +42,11 @@ class BodyWriter(Writer):
         self.written = set()
         self.locals = {}  # the binding of each local, by the HirId of its pattern
 
-    def body(self, body, module):
-        """The facts of a body."""
-        params = [self.pattern(param["pat"]) for param in body["params"]]
-        self.has_types(params)
-        root = self.expr(body["value"])
+    def body(self, function, module):
+        """The facts of a function's body."""
+        params = [self.pattern(param["pat"]) for param in function.body["params"]]
+        self.has_types(params, function.signature["decl"]["inputs"])
+        root = self.expr(function.body["value"])
         return {"module": module, "traits": [], "self": None, "params": params, "root": root, "exprs": self.exprs,
                 "pats": self.pats, "bindings": self.bindings, "labels": 0}
 
@@ -186,13 +186,17 @@ class BodyWriter(Writer):
         ty = None if let["ty"] is None else self.type(let["ty"], None)[0]
         pattern = self.pattern(let["pat"])
         if is_whole_type(let["ty"]):
-            self.has_types([pattern])
+            self.has_types([pattern], [let["ty"]])
         return ["let", pattern, ty, init, None]
 
-    def has_types(self, patterns):
-        """Notes that the types of these patterns are written; the facts of one that is left out are None."""
-        facts = [self.pats[pattern] or "left out" for pattern in patterns]
-        self.written.update("b%d" % fact[1] for fact in facts if fact[0] == "bind")
+    def has_types(self, patterns, types):
+        """Notes that these types of patterns are written; the facts of a pattern that is left out are None."""
+        for pattern, ty in zip(patterns, types):
+            fact = self.pats[pattern] or "left out"
+            if fact[0] == "bind":
+                self.written.add("b%d" % fact[1])
+            elif fact[0] == "tuple" and name_of(ty["kind"]) == "Tup":
+                self.has_types(fact[1], ty["kind"][0])
 
     def pattern(self, pat):
         """The number of a pattern."""

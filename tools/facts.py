@@ -117,12 +117,12 @@ class CrateFacts:
         trial = self.writer(function, Lists(self.items, self.refused))
         trial.omissions += self.refused.get(function.id, [])
         if function.within == "module":
-            trial.body(function.body, 0)
+            trial.body(function, 0)
         if trial.omissions:
             return Shown(self.name_of(function), function, self.lists.functions.get(function.id), None, trial.omissions, False)
         writer = self.writer(function, self.lists)
         self.body_numbers[function.id] = len(self.bodies)
-        self.bodies.append(writer.body(function.body, self.lists.module(function.module)))
+        self.bodies.append(writer.body(function, self.lists.module(function.module)))
         return Shown(self.name_of(function), function, self.lists.function(function.id), writer, [], True)
 
     def name_of(self, function):

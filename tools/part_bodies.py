@@ -44,7 +44,7 @@ class PartWriter(PartTypes, BodyWriter):
         """The facts of the body of a function that takes and gives these types."""
         self.output, self.bodies = output, function.bodies
         params = [self.fitted(param["pat"], self.shape_of_type(ty)) for param, ty in zip(function.body["params"], inputs)]
-        self.has_types(params)
+        self.has_types(params, function.signature["decl"]["inputs"])
         bound = self.bind()
         root = self.expr(function.body["value"])
         if bound:
@@ -397,7 +397,7 @@ class PartWriter(PartTypes, BodyWriter):
         shape = self.shape_of_type(ty) if is_told else None if init is None else self.shape(init)
         pattern = self.fitted(let["pat"], shape)
         if is_whole_type(let["ty"]):
-            self.has_types([pattern])
+            self.has_types([pattern], [let["ty"]])
         statements = [["let", pattern, ty, init, None]]
         if let["els"] is not None:
             self.note("`let` with `else`", span_of(let["span"]))
@@ -436,16 +436,17 @@ class PartWriter(PartTypes, BodyWriter):
         return identifier(segment["ident"]) in self.lists.endless
 
     def expr_Closure(self, kind, span):
-        self.note(kind_of_expression(kind), span)
         closure, around, first = kind[0], self.output, len(self.unbound)
+        is_block = is_async_block(closure)
+        self.note("async block" if is_block else kind_of_expression(kind), span)
         body, declared = body_of(self.bodies, closure["body"]), closure["fn_decl"]
         statements = []
-        for param, written in zip(body["params"], declared["inputs"]):
+        for param, written in () if is_block else zip(body["params"], declared["inputs"]):
             is_written = not name_of(written["kind"]).startswith("Infer")
             ty = self.type(written, None)[0] if is_written else None
             pattern = self.fitted(param["pat"], None if ty is None else self.shape_of_type(ty))
             if is_written:
-                self.has_types([pattern])
+                self.has_types([pattern], [written])
             statements.append(["let", pattern, ty, self.made(self.unknown()), None])
         statements += self.bind(first)
         output = self.type(declared["output"][0], None)[0] if declared["output"].name == "Return" else None
@@ -662,6 +663,11 @@ class PartWriter(PartTypes, BodyWriter):
             return "lost"
         path = self.path(inner[0], span)
         return "lost" if shape is None or path is None or path[0] != "ctor" else ["path", path]
+
+
+def is_async_block(closure):
+    """Whether a closure is what rustc makes of an `async` block or body, of which no parameter stands in the source."""
+    return name_of(closure["kind"]) == "Coroutine" and name_of(closure["kind"][0]) == "Desugared"
 
 
 def gives_never(function):

@@ -24,7 +24,7 @@ a { color: inherit; }
 .line { width: max-content; min-width: 100%; white-space: pre; scroll-margin-top: 30vh; }
 .line:target { background: color-mix(in srgb, var(--bad) 15%, transparent); }
 .number { display: inline-block; min-width: 3em; padding-right: 1em; text-align: right; user-select: none; color: var(--dim); }
-.note { position: sticky; left: 0; width: calc(100vw - 2rem); padding-left: 4em; font-size: 13px; overflow-wrap: anywhere; }
+.note { position: sticky; left: 0; padding-left: 4em; font-size: 13px; overflow-wrap: anywhere; }
 .hint, .remark, details { color: var(--dim); }
 .hint { font-size: 0.9em; }
 details ul { margin: 0; }
@@ -38,7 +38,7 @@ details ul { margin: 0; }
 @media (max-width: 600px) {
   body { padding: 0.75rem; }
   .number { min-width: 2em; padding-right: 0.75em; }
-  .note { width: calc(100vw - 1.5rem); padding-left: 2.75em; }
+  .note { padding-left: 2.75em; }
   .node:hover:not(:has(.node:hover))::after, .node:target:not(:has(.node:hover))::after {
     position: fixed; left: 0; right: 0; top: auto; bottom: 0; padding: 0.75rem; border-radius: 0; white-space: normal;
     overflow-wrap: anywhere; }
@@ -79,7 +79,8 @@ class FilePage:
     def add(self, view):
         """Adds what was found in a function."""
         shown, bad = view.shown, {complaint.span for complaint in view.complaints}
-        left_out = ["%d:%d: %s" % (*of.span[1:3], of.kind) for of in shown.omissions if of.span is not None]
+        omissions = sorted((of for of in shown.omissions if of.span is not None), key=lambda of: of.span)
+        left_out = ["%d:%d: %s" % (*of.span[1:3], of.kind) for of in omissions]
         if shown.function.span.file == self.file:
             self.notes[shown.function.span.line].append(details(standing(shown), left_out))
         for node in view.nodes:

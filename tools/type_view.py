@@ -116,8 +116,10 @@ def view_of(shown, report, words):
     if report is None:
         return View(shown, [], [], [])
     writer = shown.writer
-    nodes = [Node(KINDS[node[0]], writer.spans[node], words.type(ty, shown), node in writer.written)
-             for node, ty in report.types.items() if writer.spans[node] is not None and writer.spans[node] == writer.places[node]]
+    # An `async` function binds its parameters twice at one place, and the types that are written are those of the first.
+    written = {span[:5] for span in map(writer.spans.get, writer.written) if span is not None}
+    nodes = [Node(KINDS[node[0]], span, words.type(ty, shown), span[:5] in written) for node, ty in report.types.items()
+             if (span := writer.spans[node]) is not None and span == writer.places[node]]
     complaints = [Complaint(name, writer.places[node], words.complaint(name, fields, shown))
                   for name, node, fields in report.complaints]
     if shown.is_whole:
