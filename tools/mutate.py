@@ -2,11 +2,10 @@
 """Runs the program on random mutations of the examples: each must end with one of its statuses.
 
 Bytes are flipped, cut out and doubled, keys dropped, numbers changed, lists cut. What is asked for is the last
-function that the example has. Prints how often each status came, and fails at a crash, a hang (10 seconds), a status that is none of the program's, and
-output at a status that writes none.
-Usage: tools/mutate.py [COUNT [SEED]]      (20000, 1 where none is given)
-Build the program first: cd crates/infer_tool && rt run -- table fn 0 < ../../examples/first_run.json
+function that the example has. Prints how often each status came, and fails at a crash, a hang (10 seconds), a status that is none
+of the program's, and output at a status that writes none.
 """
+import argparse
 import collections
 import glob
 import json
@@ -16,8 +15,8 @@ import subprocess
 import sys
 from concurrent.futures import ThreadPoolExecutor
 
-TOP = os.path.dirname(os.path.dirname(os.path.abspath(__file__)))
-PROGRAM = os.path.join(TOP, "crates", "infer_tool", "out", "infer_tool")
+from program import TOP, NoReport, Program, add_program_options
+
 REPORTS = {0, 1}
 SILENT = {2, 3, 5, 6, 7, 8, 9, 10}
 
@@ -80,17 +79,27 @@ def mutated(rng, text):
     return bytes(out)
 
 
-def run(text, number):
-    done = subprocess.run([PROGRAM, "table", "fn", str(number)], input=text, capture_output=True, timeout=10)
+def run(path, text, number):
+    done = subprocess.run([path, "table", "fn", str(number)], input=text, capture_output=True, timeout=10)
     return done.returncode, done.stdout, done.stderr
 
 
+def program_path(given):
+    """The path of the program that is asked for."""
+    try:
+        path = Program(given.program, given.unproved).path
+    except NoReport as why:
+        sys.exit("mutate.py: %s" % why)
+    return path or sys.exit("mutate.py: no build without proof is kept: build the program (README)")
+
+
 def main():
-    if "--help" in sys.argv[1:]:
-        print(__doc__.strip())
-        return
-    count = int(sys.argv[1]) if len(sys.argv) > 1 else 20000
-    rng = random.Random(int(sys.argv[2]) if len(sys.argv) > 2 else 1)
+    parser = argparse.ArgumentParser(description=__doc__, formatter_class=argparse.RawDescriptionHelpFormatter)
+    parser.add_argument("count", metavar="COUNT", nargs="?", type=int, default=20000, help="20000 where none is given")
+    parser.add_argument("seed", metavar="SEED", nargs="?", type=int, default=1, help="1 where none is given")
+    add_program_options(parser)
+    given = parser.parse_args()
+    path, count, rng = program_path(given), given.count, random.Random(given.seed)
     texts = [open(name, "rb").read() for name in sorted(glob.glob(os.path.join(TOP, "examples", "*.json")))]
     seen = collections.Counter()
     wrong = 0
@@ -98,7 +107,7 @@ def main():
     chosen = [rng.randrange(len(texts)) for _ in range(count)]
     batch = [mutated(rng, texts[at]) for at in chosen]
     with ThreadPoolExecutor(4) as pool:
-        for text, answer in zip(batch, pool.map(attempt, batch, [numbers[at] for at in chosen])):
+        for text, answer in zip(batch, pool.map(lambda text, at: attempt(path, text, numbers[at]), batch, chosen)):
             status, out, err = answer
             seen[status] += 1
             fine = (status in REPORTS and out.endswith(b"\n") and not err) or (status in SILENT and not out and err)
@@ -109,9 +118,9 @@ def main():
     sys.exit(1 if wrong else 0)
 
 
-def attempt(text, number):
+def attempt(path, text, number):
     try:
-        return run(text, number)
+        return run(path, text, number)
     except subprocess.TimeoutExpired:
         return "hang", b"", b""
 
