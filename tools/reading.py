@@ -16,7 +16,7 @@ import sys
 TOP = os.path.dirname(os.path.dirname(os.path.abspath(__file__)))
 START = os.path.join("crates", "infer_run", "src", "running.rt")
 LIST = os.path.join("docs", "READING.md")
-IMPORT = re.compile(r"(?:pub )?(?:ghost )?use ([^\s;{}]+?)(?:\.\{([^}]*)\})?(?: as ([^\s;]+))?;?$")
+IMPORT = re.compile(r"(?:unfoldable )?(?:pub )?(?:ghost )?use ([^\s;{}]+?)(?:\.\{([^}]*)\})?(?: as ([^\s;]+))?;?$")
 WORDS = {"pub", "abbrev", "record", "unfoldable", "data"}
 NAME = r"[^\s(){}\[\];,.]+"
 
@@ -48,8 +48,8 @@ class Module:
                 self.definitions[name].append(line)
 
     def add_import(self, module, names, alias):
-        if alias and names is None:
-            self.modules[alias] = module
+        if names is None:
+            self.modules[alias or module.rpartition(".")[2]] = module
         for name in (names or "").split(","):
             own, _, other = name.strip().partition(" as ")
             if own:
@@ -86,13 +86,24 @@ def cited(text, module):
             yield None, word
 
 
+def stands(modules, module):
+    """The path of a module where it stands, through the modules that pass it on."""
+    parts = module.split(".")
+    for count in range(1, len(parts)):
+        offered = modules.get(".".join(parts[:count]))
+        if offered and parts[count] in offered.modules:
+            return stands(modules, ".".join([offered.modules[parts[count]], *parts[count + 1:]]))
+    return module
+
+
 def home(modules, module, name):
-    """The module that defines a name, where one may offer it on; None where that is none of ours."""
-    seen = set()
+    """The module that defines a name, where others may offer it on, and its name there."""
+    module, seen = stands(modules, module), set()
     while module in modules and name not in modules[module].definitions and (module, name) not in seen:
         seen.add((module, name))
-        module, name = modules[module].names.get(name, (None, name))
-    return (module, name) if module in modules else None
+        module, name = modules[module].names.get(name, ("", name))
+        module = stands(modules, module)
+    return module, name
 
 
 def start():
@@ -113,14 +124,13 @@ def reach(modules):
     order, types, waiting = [], [], start()[::-1]
     done = set()
     while waiting:
-        module, name = waiting.pop()
+        module, name = place = home(modules, *waiting.pop())
         if ".specs.declared." in module and module.split(".")[1] in crates():
             kind = ".".join(module.split(".")[1:2] + module.split(".")[4:6])
             if kind not in types:
                 types.append(kind)
             continue
-        place = home(modules, module, name)
-        if place is None or place in done:
+        if module not in modules or place in done:
             continue
         done.add(place)
         order.append(place)

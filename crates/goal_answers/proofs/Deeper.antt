@@ -1,12 +1,7 @@
 -- What is answered stays at greater depth: all definitions are positive in what is known at the depth below.
 use Rattle.std.proofs.Common.{◌≡◌, inl, inr, ℕ, zero, suc, ◌+◌, subst, arith, List, []}
-use Rattle.hir_types.specs.declared.ids.TypeAliasId.{TypeAliasId}
-use Rattle.hir_types.specs.Terms.{Term, hole, apply}
-use Rattle.goal_answers.specs.Reading.{Aliases}
-use Rattle.goal_answers.specs.Goals.{Kind, Asked, Rule, System, asked_at, args_of, type_of, key, IsKnown, self_type, only, is_among, Verdicts}
-use Rattle.goal_answers.specs.Rows.{types_of, Copied, with_parts, by_impls, unclear, copied, CopyYes, CopyNo, Tail, has_size, has_none, field, last, asked, unclear_tail, tail_of, SizedYes, SizedNo}
-use Rattle.goal_answers.specs.Answers.{IsRefuted, Gives, GivesNone, alias_next, CannotGive, alias_first, Proves, RuleIsRefuted, Shadows, ShadowsNot, HasSource, HasNoSource, YesAt, NoAt, next, nothing, first, answers}
-use Rattle.goal_answers.specs.Laws.{DeeperAnswersAgree}
+use Rattle.goal_answers.specs.Words.{TypeAliasId, Term, hole, apply}
+use Rattle.goal_answers.specs.Own.{Aliases, Kind, Asked, Rule, System, asked_at, args_of, type_of, key, IsKnown, self_type, only, is_among, Verdicts, types_of, Copied, with_parts, by_impls, unclear, copied, CopyYes, CopyNo, Tail, has_size, has_none, field, last, asked, unclear_tail, tail_of, SizedYes, SizedNo, IsRefuted, Gives, GivesNone, alias_next, CannotGive, alias_first, Proves, RuleIsRefuted, Shadows, ShadowsNot, HasSource, HasNoSource, YesAt, NoAt, next, nothing, first, answers, DeeperAnswersAgree}
 use Rattle.goal_answers.proofs.Lists.{one_if, each_map, some_map, one_map, or_map}
 use Rattle.goal_answers.proofs.Parts.{each_type, some_type}
 use Rattle.goal_answers.proofs.Readings.{AliasWithin, reads_within}

@@ -1,18 +1,9 @@
 -- What is answered stays where holes are filled.
 use Rattle.std.proofs.Common.{◌≡◌, inl, inr, ℕ, zero, suc, true≢false, refl, sym, ap, ◌∙◌, subst, List, [], Option, Some, None}
-use Rattle.hir_types.specs.declared.ids.TypeAliasId.{TypeAliasId}
-use Rattle.hir_types.specs.declared.head.Head.{Head}
+use Rattle.goal_answers.specs.Words.{TypeAliasId, Head, Mutability, Term, hole, leaf, pair, apply, hole_number, Respects, apply_apply, is_int_apply}
 use Rattle.hir_types.specs.declared.head.Head.TheVariants as head
-use Rattle.hir_types.specs.declared.ty.Mutability.{Mutability}
 use Rattle.hir_types.specs.declared.ty.Mutability.TheVariants as mutability
-use Rattle.hir_types.specs.Terms.{Term, hole, leaf, pair, apply, hole_number}
-use Rattle.infer_table.specs.Solutions.{Respects}
-use Rattle.infer_table.specs.TermLemmas.{apply_apply, is_int_apply}
-use Rattle.goal_answers.specs.Reading.{Fill, IsFilling, Aliases, Reads, ReadsAs, MayRead}
-use Rattle.goal_answers.specs.Goals.{Kind, implements, projects, Asked, Rule, System, asked_at, args_of, type_of, key, IsKnown, self_type, only, is_among, Each, Verdicts}
-use Rattle.goal_answers.specs.Rows.{types_of, EachType, SomeType, IsLast, AreArgs, Copied, with_parts, by_impls, unclear, copied_head, copied, CopyYes, CopyNo, Tail, has_size, has_none, field, last, asked, unclear_tail, field_tail, tuple_tail, head_tail, tail_of, SizedYes, SizedNo}
-use Rattle.goal_answers.specs.Answers.{NeverSame, IsApart, IsGeneral, FailsAt, IsRefuted, Gives, GivesNone, ByRules, alias_next, CannotGive, alias_first, Proves, RuleIsRefuted, Shadows, ShadowsNot, HasSource, HasNoSource, IsItself, IsNeverItself, YesAt, NoAt, next, nothing, first, answers}
-use Rattle.goal_answers.specs.Laws.{DecidedAnswersStay}
+use Rattle.goal_answers.specs.Own.{Fill, IsFilling, Aliases, Reads, ReadsAs, MayRead, Kind, implements, projects, Asked, Rule, System, asked_at, args_of, type_of, key, IsKnown, self_type, only, is_among, Each, Verdicts, types_of, EachType, SomeType, IsLast, AreArgs, Copied, with_parts, by_impls, unclear, copied_head, copied, CopyYes, CopyNo, Tail, has_size, has_none, field, last, asked, unclear_tail, field_tail, tuple_tail, head_tail, tail_of, SizedYes, SizedNo, NeverSame, IsApart, IsGeneral, FailsAt, IsRefuted, Gives, GivesNone, ByRules, alias_next, CannotGive, alias_first, Proves, RuleIsRefuted, Shadows, ShadowsNot, HasSource, HasNoSource, IsItself, IsNeverItself, YesAt, NoAt, next, nothing, first, answers, DecidedAnswersStay}
 use Rattle.goal_answers.proofs.Lists.{one_if, each_map, some_map, one_map, or_map}
 use Rattle.goal_answers.proofs.Parts.{each_type_filled, some_type_filled, last_filled, nth_filled}
 use Rattle.goal_answers.proofs.Readings.{AliasStays, filling_twice, reads_filled, reads_as_filled}

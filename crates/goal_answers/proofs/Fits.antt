@@ -1,14 +1,9 @@
 -- What the most general common instance and the one match tell of a rule.
 use Rattle.std.proofs.Common.{◌≡◌, ◌⊎◌, inl, inr, true, sym, ap, ◌∙◌, subst, List}
-use Rattle.hir_types.specs.declared.head.Hole.{Hole}
-use Rattle.hir_types.specs.Terms.{Term, apply, occurs}
-use Rattle.infer_table.specs.TermLemmas.{apply_apply, apply_agree, is_int_apply}
-use Rattle.goal_answers.specs.Reading.{Fill, IsFilling, stands, Aliases, Reads, MayRead}
-use Rattle.goal_answers.specs.Goals.{Asked, Rule, asked_at, Each, SomeOf, IsTold, Verdicts}
-use Rattle.goal_answers.specs.Answers.{NeverSame, IsApart, FailsAt, IsRefuted}
+use Rattle.goal_answers.specs.Words.{Hole, Term, apply, occurs, apply_apply, apply_agree, is_int_apply}
+use Rattle.goal_answers.specs.Own.{Fill, IsFilling, stands, Aliases, Reads, MayRead, Asked, Rule, asked_at, Each, SomeOf, IsTold, Verdicts, NeverSame, IsApart, FailsAt, IsRefuted, HoldsAt, Tells}
 use Rattle.goal_answers.proofs.Lists.{each_with, some_with}
 use Rattle.goal_answers.proofs.Readings.{reads_filled, reads_one, reads_may, reads_agree, may_tells}
-use Rattle.goal_answers.specs.Steps.{HoldsAt, Tells}
 use Rattle.goal_answers.proofs.Levels.{IsLevel}
 
 -- a goal at what stands for its holes, where two agree on these

@@ -1,20 +1,13 @@
 -- What holds of readings and verdicts at each depth.
 use Rattle.std.proofs.Common.{◌≡◌, inl, inr, ℕ, zero, suc, true, true≢false, sym, ap, ◌∙◌, subst, List, [], ◌∷◌}
 use Rattle.std.proofs.lemmas.Bool.{or_cases, or_left, or_right}
-use Rattle.hir_types.specs.declared.ids.TypeAliasId.{TypeAliasId}
-use Rattle.hir_types.specs.declared.head.Hole.{Hole}
-use Rattle.hir_types.specs.Terms.{Term, hole, leaf, pair, occurs}
-use Rattle.infer_table.specs.TermLemmas.{hole_eq_true, hole_eq_same}
-use Rattle.goal_answers.specs.Reading.{Fill, Role, plain, alias, role, staying, IsRead, stands, Aliases, Reads, MayRead}
-use Rattle.goal_answers.specs.Goals.{Kind, Rule, System, args_of, type_of, key, SomeOf, OneOf, Verdicts}
-use Rattle.goal_answers.specs.Answers.{Gives, GivesNone, alias_next, answers}
-use Rattle.goal_answers.specs.Proofs.{IsOne}
+use Rattle.goal_answers.specs.Words.{TypeAliasId, Hole, Term, hole, leaf, pair, occurs, hole_eq_true, hole_eq_same}
+use Rattle.goal_answers.specs.Own.{Fill, Role, plain, alias, role, staying, IsRead, stands, Aliases, Reads, MayRead, Kind, Rule, System, args_of, type_of, key, SomeOf, OneOf, Verdicts, Gives, GivesNone, alias_next, answers, IsOne, known_below}
 use Rattle.goal_answers.proofs.Lists.{one_some}
 use Rattle.goal_answers.proofs.Readings.{ReadsBy, MayReadBy, stands_by, reads_may}
 use Rattle.goal_answers.proofs.Filled.{answers_stay}
 use Rattle.goal_answers.proofs.One.{Never, AlwaysStays, AliasAlwaysStays, args_tell, occurs_type, answers_sound}
 use Rattle.goal_answers.proofs.Proved.{first_always}
-use Rattle.goal_answers.specs.Steps.{known_below}
 
 -- ---- what is read has no alias that is still to be read
 

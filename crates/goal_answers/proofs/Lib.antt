@@ -9,4 +9,4 @@ pub mod Levels
 pub mod Fits
 pub mod Upto
 pub mod Sole
-pub mod Below
+pub mod Words

@@ -1,6 +1,6 @@
 -- Each, some and one of a list; and of the parts of a type.
 use Rattle.std.proofs.Common.{◌⊎◌, inl, inr, Bool, true, false, List, [], ◌∷◌}
-use Rattle.goal_answers.specs.Goals.{OneIf, Each, SomeOf, OneOf}
+use Rattle.goal_answers.specs.Own.{OneIf, Each, SomeOf, OneOf}
 
 -- by what a test says
 pub one_if : {W S W' S' : Type 0} (b : Bool) → (W → W') → (S → S') → OneIf b W S → OneIf b W' S'

@@ -1,17 +1,8 @@
 -- No goal is answered both, and what an alias reads as is one thing.
 use Rattle.std.proofs.Common.{◌≡◌, ◌⊎◌, inl, inr, ℕ, zero, suc, ◌+◌, true, false, Bool, true≢false, refl, sym, ap, ◌∙◌, subst, arith, List, []}
 use Rattle.std.proofs.lemmas.Bool.{or_left, or_right}
-use Rattle.hir_types.specs.declared.ids.TypeAliasId.{TypeAliasId}
-use Rattle.hir_types.specs.declared.head.Hole.{Hole}
-use Rattle.hir_types.specs.Terms.{Term, hole, leaf, pair, apply, occurs, hole_number}
-use Rattle.infer_table.specs.TermLemmas.{apply_apply, apply_agree, hole_respects}
-use Rattle.goal_answers.specs.Reading.{Fill, Role, plain, alias, role, IsFilling, stands, Aliases, Reads, ReadsAs}
-use Rattle.goal_answers.specs.Goals.{Kind, implements, projects, Asked, Rule, System, asked_at, args_of, type_of, key, IsKnown, self_type, only, is_among, OneIf, Each, SomeOf, OneOf, IsToldBy, IsTold, Verdicts}
-use Rattle.goal_answers.specs.Rows.{types_of, Copied, with_parts, by_impls, unclear, copied, CopyYes, CopyNo, Tail, has_size, has_none, field, last, asked, unclear_tail, tail_of, SizedYes, SizedNo}
-use Rattle.goal_answers.specs.Answers.{NeverSame, IsRefuted, Gives, GivesNone, ByRules, alias_next, alias_first, Proves, RuleIsRefuted, Shadows, ShadowsNot, HasSource, HasNoSource, IsItself, IsNeverItself, YesAt, NoAt, next, nothing, first, answers}
-use Rattle.goal_answers.specs.Proofs.{IsOne}
-use Rattle.goal_answers.specs.Steps.{Tells}
-use Rattle.goal_answers.specs.Laws.{AnswersAreOne}
+use Rattle.goal_answers.specs.Words.{TypeAliasId, Hole, Term, hole, leaf, pair, apply, occurs, hole_number, apply_apply, apply_agree, hole_respects}
+use Rattle.goal_answers.specs.Own.{Fill, Role, plain, alias, role, IsFilling, stands, Aliases, Reads, ReadsAs, Kind, implements, projects, Asked, Rule, System, asked_at, args_of, type_of, key, IsKnown, self_type, only, is_among, OneIf, Each, SomeOf, OneOf, IsToldBy, IsTold, Verdicts, types_of, Copied, with_parts, by_impls, unclear, copied, CopyYes, CopyNo, Tail, has_size, has_none, field, last, asked, unclear_tail, tail_of, SizedYes, SizedNo, NeverSame, IsRefuted, Gives, GivesNone, ByRules, alias_next, alias_first, Proves, RuleIsRefuted, Shadows, ShadowsNot, HasSource, HasNoSource, IsItself, IsNeverItself, YesAt, NoAt, next, nothing, first, answers, IsOne, Tells, AnswersAreOne}
 use Rattle.goal_answers.proofs.Lists.{each_map, some_each, one_each, one_one, picked}
 use Rattle.goal_answers.proofs.Parts.{types_or, last_one, nth_one}
 use Rattle.goal_answers.proofs.Readings.{apply_hole, AliasStays, reads_filled, reads_one, reads_may, reads_agree, may_here, may_tells, hole_filling, stands_by}

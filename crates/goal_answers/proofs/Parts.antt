@@ -2,10 +2,8 @@
 use Rattle.std.proofs.Common.{◌≡◌, inl, inr, ℕ, zero, suc, refl, sym, ap, ◌∙◌, subst, List, [], ◌∷◌, map, Option, Some, None}
 use Rattle.std.proofs.lemmas.Option.{same_Some}
 use Rattle.hir_types.specs.declared.head.Head.TheVariants as head
-use Rattle.hir_types.specs.Terms.{Term, hole, leaf, pair, apply}
-use Rattle.goal_answers.specs.Reading.{Fill}
-use Rattle.goal_answers.specs.Goals.{Each, SomeOf}
-use Rattle.goal_answers.specs.Rows.{with_part, types_of, EachType, SomeType, IsLastPart, IsLast, IsNth}
+use Rattle.goal_answers.specs.Words.{Term, hole, leaf, pair, apply}
+use Rattle.goal_answers.specs.Own.{Fill, Each, SomeOf, with_part, types_of, EachType, SomeType, IsLastPart, IsLast, IsNth}
 use Rattle.goal_answers.proofs.Lists.{each_map, some_map, some_each}
 
 -- ---- types among the parts

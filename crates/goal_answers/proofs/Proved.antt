@@ -1,14 +1,9 @@
 -- Goals answered Yes have proofs, and those answered No have none.
 use Rattle.std.proofs.Common.{◌≡◌, ◌⊎◌, inl, inr, ℕ, zero, suc, true, false, Bool, sym, ◌∙◌, subst, [], Some}
 use Rattle.std.proofs.lemmas.Option.{same_Some}
-use Rattle.hir_types.specs.declared.ids.TypeAliasId.{TypeAliasId}
-use Rattle.hir_types.specs.Terms.{Term, hole}
-use Rattle.goal_answers.specs.Reading.{Fill, Aliases, Reads}
-use Rattle.goal_answers.specs.Goals.{Kind, Asked, Rule, System, asked_at, args_of, type_of, key, IsKnown, self_type, only, is_among, OneIf, Each, Verdicts}
-use Rattle.goal_answers.specs.Rows.{SizedYes, SizedNo}
-use Rattle.goal_answers.specs.Answers.{Gives, GivesNone, alias_next, alias_first, Proves, RuleIsRefuted, Shadows, ShadowsNot, IsItself, YesAt, NoAt, nothing, answers}
-use Rattle.goal_answers.specs.Answers.{HasSource as IsAnswered, HasNoSource}
-use Rattle.goal_answers.specs.Proofs.{IsOne, IsSource, HasSource, HasProof, IsGiven, Claims, IsEntry, YesHasProofs, NoHasNoProof}
+use Rattle.goal_answers.specs.Words.{TypeAliasId, Term, hole}
+use Rattle.goal_answers.specs.Own.{Fill, Aliases, Reads, Kind, Asked, Rule, System, asked_at, args_of, type_of, key, IsKnown, self_type, only, is_among, OneIf, Each, Verdicts, SizedYes, SizedNo, Gives, GivesNone, alias_next, alias_first, Proves, RuleIsRefuted, Shadows, ShadowsNot, IsItself, YesAt, NoAt, nothing, answers, HasSource as IsAnswered, HasNoSource, IsOne, IsSource, HasProof, IsGiven, Claims, IsEntry, YesHasProofs, NoHasNoProof}
+use Rattle.goal_answers.specs.Proofs.{HasSource}
 use Rattle.goal_answers.proofs.Lists.{one_if, each_map, some_map, some_each, one_some, or_map}
 use Rattle.goal_answers.proofs.Readings.{AliasWithin, reads_within, reads_one}
 use Rattle.goal_answers.proofs.Filled.{first_stays, answers_stay}

@@ -1,12 +1,8 @@
 -- Readings of terms: where holes are filled, where more aliases are read, and that they are one.
 use Rattle.std.proofs.Common.{◌≡◌, inl, inr, refl, sym, ap, ap₂, ◌∙◌, subst, true, false, Bool, ◌||◌, true≢false}
 use Rattle.std.proofs.lemmas.Bool.{or_cases, or_left, or_right}
-use Rattle.hir_types.specs.declared.ids.TypeAliasId.{TypeAliasId}
-use Rattle.hir_types.specs.declared.head.Hole.{Hole}
-use Rattle.hir_types.specs.Terms.{Term, hole, leaf, pair, apply, occurs}
-use Rattle.infer_table.specs.TermLemmas.{is_int_apply, hole_eq_true, hole_eq_same, hole_respects, pair_left, pair_right}
-use Rattle.goal_answers.specs.Reading.{Fill, Role, plain, alias, role, IsReadLeaf, IsRead, IsFilling, stands, Aliases, Reads, ReadsAs, MayRead}
-use Rattle.goal_answers.specs.Proofs.{IsOne}
+use Rattle.goal_answers.specs.Words.{TypeAliasId, Hole, Term, hole, leaf, pair, apply, occurs, is_int_apply, hole_eq_true, hole_eq_same, hole_respects, pair_left, pair_right}
+use Rattle.goal_answers.specs.Own.{Fill, Role, plain, alias, role, IsReadLeaf, IsRead, IsFilling, stands, Aliases, Reads, ReadsAs, MayRead, IsOne}
 
 -- ---- terms without aliases
 

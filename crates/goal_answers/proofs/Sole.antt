@@ -1,17 +1,10 @@
 -- A goal has no proof but by the source that it is selected by.
 use Rattle.std.proofs.Common.{◌≡◌, inl, inr, ℕ, zero, suc, Bool, false, refl, sym, ◌∙◌, subst, arith, List, [], ◌∷◌, slice_get, Some}
 use Rattle.std.proofs.lemmas.Option.{same_Some}
-use Rattle.hir_types.specs.declared.head.Head.{Head}
+use Rattle.goal_answers.specs.Words.{Head, Term, hole, leaf, pair, apply}
 use Rattle.hir_types.specs.declared.head.Head.TheVariants as head
-use Rattle.hir_types.specs.Terms.{Term, hole, leaf, pair, apply}
-use Rattle.goal_answers.specs.Reading.{Fill, Aliases, role, IsReadLeaf, IsRead, IsFilling}
-use Rattle.goal_answers.specs.Goals.{Kind, implements, projects, Asked, Rule, System, key, IsKnown, self_type, only, is_among, OneIf, Each, SomeOf, Verdicts}
-use Rattle.goal_answers.specs.Rows.{CopyYes, CopyNo, SizedYes}
-use Rattle.goal_answers.specs.Answers.{RuleIsRefuted, ShadowsNot, answers}
-use Rattle.goal_answers.specs.Steps.{known_below}
-use Rattle.goal_answers.specs.Selecting.{Choice, by_clause, by_rule, by_parts, by_size, IsConcreteHead, IsConcrete, IsTraitKind, IsOnlySource, SizeIsBy, IsDeep}
-use Rattle.goal_answers.specs.Proofs.{IsOne, IsSource, HasSource, HasProof}
-use Rattle.goal_answers.specs.Laws.{IsProvedThrough, SelectedIsTheSource}
+use Rattle.goal_answers.specs.Own.{Fill, Aliases, role, IsReadLeaf, IsRead, IsFilling, Kind, implements, projects, Asked, Rule, System, key, IsKnown, self_type, only, is_among, OneIf, Each, SomeOf, Verdicts, CopyYes, CopyNo, SizedYes, RuleIsRefuted, ShadowsNot, answers, known_below, Choice, by_clause, by_rule, by_parts, by_size, IsConcreteHead, IsConcrete, IsTraitKind, IsOnlySource, SizeIsBy, IsDeep, IsOne, IsSource, HasProof, IsProvedThrough, SelectedIsTheSource}
+use Rattle.goal_answers.specs.Proofs.{HasSource}
 use Rattle.goal_answers.proofs.Lists.{each_map, some_each}
 use Rattle.goal_answers.proofs.Readings.{AliasWithin, read_filled, read_reads, reads_within, reads_one}
 use Rattle.goal_answers.proofs.Filled.{rule_refuted_filled, shadows_not_filled, copy_no_filled}

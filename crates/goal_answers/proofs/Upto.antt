@@ -1,6 +1,6 @@
 -- Each, some and one of the elements before an index.
 use Rattle.std.proofs.Common.{◌≡◌, inl, inr, ℕ, zero, suc, ◌+◌, ◌<◌, ◌≤◌, refl, sym, subst, arith, List, [], ◌∷◌, map, length, take, get_or}
-use Rattle.goal_answers.specs.Goals.{Each, SomeOf, OneOf}
+use Rattle.goal_answers.specs.Own.{Each, SomeOf, OneOf}
 
 each_upto : {X : Type 0} (P : X → Type 0) (xs : List X) (i j : ℕ) (x : X) → j ≡ suc i → i < length xs → x ≡ get_or xs i x → Each P (take i xs) → P x → Each P (take j xs)
 each_upto P [] i j x e h g k p = absurd (omega arith)

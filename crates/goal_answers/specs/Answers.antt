@@ -1,9 +1,7 @@
 -- What the answer to a goal is, and what an alias reads as, at each depth: The Rust Reference, "Trait and lifetime bounds",
 -- "Implementations", "Associated items".
 use Rattle.std.specs.Prelude.{◌≡◌, ◌⊎◌, ℕ, zero, suc, true, List, []}
-use Rattle.hir_types.specs.declared.ids.TypeAliasId.{TypeAliasId}
-use Rattle.hir_types.specs.Terms.{Term, pair, apply}
-use Rattle.infer_table.specs.Solutions.{Respects}
+use Rattle.goal_answers.specs.Words.{TypeAliasId, Term, pair, apply, Respects}
 use Rattle.goal_answers.specs.Reading.{Fill, staying, IsFilling, stands, Aliases, Reads, ReadsAs, MayRead}
 use Rattle.goal_answers.specs.Goals.{Kind, implements, projects, Asked, Rule, System, asked_at, args_of, type_of, key, IsKnown, self_type, only, is_among, OneIf, Each, SomeOf, OneOf, IsTold, Verdicts}
 use Rattle.goal_answers.specs.Rows.{CopyYes, CopyNo, SizedYes, SizedNo}

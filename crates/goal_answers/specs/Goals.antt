@@ -1,12 +1,8 @@
 -- Goals, and what they may be answered by.
 use Rattle.std.specs.Prelude.{◌≡◌, ◌⊎◌, ◌==◌, ℕ, Bool, true, false, List, [], ◌∷◌, Option}
 use Rattle.std.specs.List.{list_any}
-use Rattle.hir_types.specs.declared.ids.AdtId.{AdtId}
-use Rattle.hir_types.specs.declared.ids.TraitId.{TraitId}
-use Rattle.hir_types.specs.declared.ids.TypeAliasId.{TypeAliasId}
+use Rattle.goal_answers.specs.Words.{AdtId, TraitId, TypeAliasId, Hole, Term, leaf, pair, apply, occurs}
 use Rattle.hir_types.specs.declared.head.Head.TheVariants as head
-use Rattle.hir_types.specs.declared.head.Hole.{Hole}
-use Rattle.hir_types.specs.Terms.{Term, leaf, pair, apply, occurs}
 use Rattle.goal_answers.specs.Reading.{Fill, Aliases, stands}
 
 -- that a type implements a trait, or that an alias is a type

@@ -1,7 +1,6 @@
 -- What holds of all answers.
 use Rattle.std.specs.Prelude.{◌≡◌, ℕ, suc, ◌+◌, false, slice_get, Option, Some}
-use Rattle.hir_types.specs.declared.ids.TypeAliasId.{TypeAliasId}
-use Rattle.hir_types.specs.Terms.{Term, apply}
+use Rattle.goal_answers.specs.Words.{TypeAliasId, Term, apply}
 use Rattle.goal_answers.specs.Reading.{Fill, IsFilling, Aliases}
 use Rattle.goal_answers.specs.Goals.{Kind, Asked, Rule, System, asked_at, is_among}
 use Rattle.goal_answers.specs.Rows.{CopyYes}

@@ -6,4 +6,5 @@ pub mod Laws
 pub mod Proofs
 pub mod Steps
 pub mod Selecting
-pub mod Below
+pub mod Words
+pub mod Own

@@ -1,7 +1,6 @@
 -- What a proof of a goal is, where aliases read as a table says.
 use Rattle.std.specs.Prelude.{◌≡◌, ◌⊎◌, ℕ, zero, suc, [], Option, Some}
-use Rattle.hir_types.specs.declared.ids.TypeAliasId.{TypeAliasId}
-use Rattle.hir_types.specs.Terms.{Term}
+use Rattle.goal_answers.specs.Words.{TypeAliasId, Term}
 use Rattle.goal_answers.specs.Reading.{Fill, IsFilling, staying, Aliases, Reads, ReadsAs}
 use Rattle.goal_answers.specs.Goals.{Kind, projects, Asked, Rule, System, asked_at, args_of, type_of, self_type, only, is_among, OneIf, Each, SomeOf}
 use Rattle.goal_answers.specs.Rows.{CopyYes, SizedYes}

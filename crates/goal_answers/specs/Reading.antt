@@ -1,10 +1,7 @@
 -- How a type reads once its aliases are replaced.
 use Rattle.std.specs.Prelude.{◌≡◌, Bool, false, ◌||◌}
-use Rattle.hir_types.specs.declared.ids.TypeAliasId.{TypeAliasId}
+use Rattle.goal_answers.specs.Words.{TypeAliasId, Hole, Term, hole, leaf, pair, hole_eq, Respects}
 use Rattle.hir_types.specs.declared.head.Head.TheVariants as head
-use Rattle.hir_types.specs.declared.head.Hole.{Hole}
-use Rattle.hir_types.specs.Terms.{Term, hole, leaf, pair, hole_eq}
-use Rattle.infer_table.specs.Solutions.{Respects}
 
 -- what stands for each hole
 abbrev pub Fill : Type 0

@@ -1,10 +1,9 @@
 -- Goals that hold without an impl: which types have a size (The Rust Reference, "Dynamically sized types", "Sized"), and which are
 -- copied because their parts are ("Special types and traits", `Copy`, `Clone`).
 use Rattle.std.specs.Prelude.{◌≡◌, ◌⊎◌, ℕ, zero, suc, true, List, [], ◌∷◌, Option, Some, None}
-use Rattle.hir_types.specs.declared.head.Head.{Head}
+use Rattle.goal_answers.specs.Words.{Head, Term, hole, leaf, pair, apply, occurs, hole_number}
 use Rattle.hir_types.specs.declared.head.Head.TheVariants as head
 use Rattle.hir_types.specs.declared.ty.Mutability.TheVariants as mutability
-use Rattle.hir_types.specs.Terms.{Term, hole, leaf, pair, apply, occurs, hole_number}
 use Rattle.goal_answers.specs.Reading.{Fill, Aliases, ReadsAs}
 use Rattle.goal_answers.specs.Goals.{Kind, Asked, System, self_type, only, is_among, Each, SomeOf}
 

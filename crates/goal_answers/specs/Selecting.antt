@@ -1,8 +1,7 @@
 -- Which source a goal is selected by: the only one that isn't refuted, clauses before rules and rows.
 use Rattle.std.specs.Prelude.{◌≡◌, ℕ, zero, suc, ◌<◌, true, List, length, slice_get, Option, Some, None}
-use Rattle.hir_types.specs.declared.head.Head.{Head}
+use Rattle.goal_answers.specs.Words.{Head, Term, hole, leaf, pair}
 use Rattle.hir_types.specs.declared.head.Head.TheVariants as head
-use Rattle.hir_types.specs.Terms.{Term, hole, leaf, pair}
 use Rattle.goal_answers.specs.Reading.{Aliases}
 use Rattle.goal_answers.specs.Goals.{Kind, implements, projects, Asked, Rule, System, IsKnown, self_type, is_among, OneIf, Each, Verdicts}
 use Rattle.goal_answers.specs.Rows.{with_parts, copied, types_of, CopyNo}

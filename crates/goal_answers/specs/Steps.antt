@@ -1,7 +1,6 @@
 -- What one step of a search finds.
 use Rattle.std.specs.Prelude.{ℕ, zero, suc, List, Option, Some, None}
-use Rattle.hir_types.specs.declared.ids.TypeAliasId.{TypeAliasId}
-use Rattle.hir_types.specs.Terms.{Term}
+use Rattle.goal_answers.specs.Words.{TypeAliasId, Term}
 use Rattle.goal_answers.specs.Reading.{Fill, Aliases, Reads}
 use Rattle.goal_answers.specs.Goals.{Asked, Rule, System, asked_at, Each, IsToldBy, IsTold, Verdicts}
 use Rattle.goal_answers.specs.Answers.{nothing, answers}

@@ -1,6 +1,5 @@
 //! Laws of answers.
-ghost use Rattle.goal_answers.specs.Laws.{AnswersAreOne, DecidedAnswersStay, DeeperAnswersAgree, SelectedIsTheSource};
-ghost use Rattle.goal_answers.specs.Proofs.{YesHasProofs, NoHasNoProof};
+ghost use Rattle.goal_answers.specs.Own.{AnswersAreOne, DecidedAnswersStay, DeeperAnswersAgree, SelectedIsTheSource, YesHasProofs, NoHasNoProof};
 
 /// What a goal is answered stays where its holes are filled with types without aliases.
 pub fn decided_answers_stay()

@@ -2,10 +2,9 @@
 use Rattle.std.specs.Prelude.{◌≡◌, ◌⊎◌, ◌+◌, ◌<◌, ◌≤◌, ℕ, zero, suc, List, [], ◌∷◌, ◌++◌, length, map, slice_get, Some, refl}
 use Rattle.std.proofs.Common.{inl, inr, sym, ap, ◌∙◌, subst, arith, get_or}
 use Rattle.std.proofs.lemmas.Option.{same_Some}
-use Rattle.goal_answers.specs.Goals.{Asked}
-use Rattle.goal_terms.specs.Terms.{HasHeads}
-use Rattle.goal_facts.specs.Additions.{Has, AreDistinct, Adds, SomeSays, SomeSaysBefore}
-use Rattle.goal_answers.proofs.Below.{get_left, get_last, get_more}
+use Rattle.goal_facts.specs.Words.{Asked, HasHeads}
+use Rattle.goal_facts.specs.Own.{Has, AreDistinct, Adds, SomeSays, SomeSaysBefore}
+use Rattle.goal_facts.proofs.Words.{get_left, get_last, get_more}
 
 -- ---- places
 

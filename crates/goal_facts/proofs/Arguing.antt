@@ -4,22 +4,9 @@ use Rattle.std.specs.List.{range_with_len}
 use Rattle.std.proofs.Common.{sym, ap, ◌∙◌, subst, arith}
 use Rattle.std.proofs.lemmas.Bool.{or_left, or_right}
 use Rattle.std.proofs.lemmas.List.{map-append}
-use Rattle.hir_types.specs.declared.ids.TypeAliasId.{TypeAliasId}
-use Rattle.hir_types.specs.declared.ids.TypeRefId.{TypeRefId}
-use Rattle.hir_types.specs.declared.head.Hole.{Hole}
-use Rattle.hir_types.specs.declared.ty.GenericArg.{GenericArg, GenericArg-F, fold_out-GenericArg}
-use Rattle.hir_types.specs.Terms.{Term, hole, leaf, pair, apply, occurs, hole_number, chain, type_part, arg_term, arg_step, ty_step, bound_step, trait_step}
-use Rattle.goal_answers.specs.Below.{apply_agree, hole_eq_same}
-use Rattle.hir_raw.specs.declared.raw.RawFacts.{RawFacts}
-use Rattle.hir_raw.specs.declared.raw.RawGoal.{RawGoal}
-use Rattle.goal_answers.specs.Reading.{Fill, plain, role, staying}
-use Rattle.goal_answers.specs.Goals.{Asked, asked_at}
-use Rattle.goal_answers.specs.Rows.{IsNth, AreArgs}
-use Rattle.goal_answers.proofs.Parts.{nth_one}
-use Rattle.goal_terms.specs.Terms.{IsHead, HasHeads}
-use Rattle.goal_facts.specs.Arguments.{args_at, goal_with, goal_at}
-use Rattle.goal_facts.specs.Environment.{SaysAt}
-use Rattle.goal_facts.specs.Bounds.{BoundSays}
+use Rattle.goal_facts.specs.Words.{TypeAliasId, TypeRefId, Hole, GenericArg, GenericArg-F, fold_out-GenericArg, Term, hole, leaf, pair, apply, occurs, hole_number, chain, type_part, arg_term, arg_step, ty_step, bound_step, trait_step, apply_agree, hole_eq_same, RawFacts, RawGoal, Fill, plain, role, staying, Asked, asked_at, IsNth, AreArgs, IsHead, HasHeads}
+use Rattle.goal_facts.proofs.Words.{nth_one}
+use Rattle.goal_facts.specs.Own.{args_at, goal_with, goal_at, SaysAt, BoundSays}
 
 pub range_more : (a n m : ℕ) → m ≡ suc n → range_with_len a m ≡ range_with_len a n ++ (a + n) ∷ []
 range_more a zero m e = let h : a + 0 ≡ a = omega arith in rw e (λ i. sym h i ∷ [])

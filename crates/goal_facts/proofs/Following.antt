@@ -2,14 +2,8 @@
 use Rattle.std.specs.Prelude.{◌≡◌, ◌⊎◌, ◌+◌, ◌<◌, ◌≤◌, ℕ, zero, suc, List, [], ◌∷◌, length, slice_get, Option, Some, None, refl}
 use Rattle.std.proofs.Common.{inl, inr, sym, ap, ◌∙◌, subst, arith}
 use Rattle.std.proofs.lemmas.Option.{same_Some}
-use Rattle.hir_types.specs.declared.ids.TraitId.{TraitId}
-use Rattle.hir_types.specs.declared.ty.GenericArg.{GenericArg}
-use Rattle.hir_raw.specs.declared.raw.RawGoal.{RawGoal}
-use Rattle.hir_raw.specs.declared.raw.RawFacts.{RawFacts}
-use Rattle.goal_answers.specs.Goals.{Kind, implements, projects, Asked}
-use Rattle.goal_facts.specs.Additions.{Has, AreDistinct, AllHaveHeads, Adds, SomeSays}
-use Rattle.goal_facts.specs.Environment.{trait_preds, trait_holes, SaysAt, IsSuper, Follows}
-use Rattle.goal_facts.specs.Levels.{SomeSuper, IsLevel}
+use Rattle.goal_facts.specs.Words.{TraitId, GenericArg, RawGoal, RawFacts, Kind, implements, projects, Asked}
+use Rattle.goal_facts.specs.Own.{Has, AreDistinct, AllHaveHeads, Adds, SomeSays, trait_preds, trait_holes, SaysAt, IsSuper, Follows, SomeSuper, IsLevel}
 use Rattle.goal_facts.proofs.Adding.{less_or_last, get_within, adds_as, adds_then, adds_none}
 
 -- ---- the first level

@@ -3,39 +3,14 @@ use Rattle.std.specs.Prelude.{◌≡◌, ◌+◌, ◌<◌, ℕ, zero, suc, Bool,
 use Rattle.std.specs.List.{range_with_len}
 use Rattle.std.proofs.Common.{inl, inr, sym, ap, ap₂, ◌∙◌, subst, arith}
 use Rattle.std.proofs.lemmas.Bool.{or_cases, ltb-true, ltb-false}
-use Rattle.hir_types.specs.declared.ids.TypeRefId.{TypeRefId}
+use Rattle.goal_facts.specs.Words.{TypeRefId, Hole, Ty-F, GenericArg, Assignment, with_holes, folded, arg_replaced, args_replaced, map_twice, at_ty, replaced_var, arg_replaced_type, instance_folded, Term, hole, leaf, pair, apply, occurs, type_part, term, arg_term, terms_of, term_folded, term_var, term_int_var, term_error, arg_term_type, RawType, RawGoal, RawTraitRef, RawImpl, RawFacts, arg_types, count_or_none, generic_params, filled_type, written_type, filled_folded, hole_eq_true, pair_left, pair_right, Fill, Each, asked_at}
 use Rattle.hir_types.specs.declared.ids.GenericDefId.TheVariants as generic
-use Rattle.hir_types.specs.declared.head.Hole.{Hole}
 use Rattle.hir_types.specs.declared.head.Hole.TheVariants as hole_of
 use Rattle.hir_types.specs.declared.ty.Const.TheVariants as const
-use Rattle.hir_types.specs.declared.ty.Ty.{Ty-F}
 use Rattle.hir_types.specs.declared.ty.Ty.TheVariants as ty
-use Rattle.hir_types.specs.declared.ty.GenericArg.{GenericArg}
 use Rattle.hir_types.specs.declared.ty.GenericArg.TheVariants as arg
-use Rattle.hir_types.specs.Subst.{Assignment, with_holes, folded, arg_replaced, args_replaced}
-use Rattle.hir_types.specs.Folds.{map_twice}
-use Rattle.hir_types.specs.Replacements.{at_ty, replaced_var, arg_replaced_type}
-use Rattle.hir_types.specs.Instances.{instance_folded}
-use Rattle.hir_types.specs.Terms.{Term, hole, leaf, pair, apply, occurs, type_part, term, arg_term, terms_of}
-use Rattle.hir_types.specs.TermLaws.{term_folded, term_var, term_int_var, term_error, arg_term_type}
-use Rattle.hir_raw.specs.declared.raw.RawType.{RawType}
-use Rattle.hir_raw.specs.declared.raw.RawGoal.{RawGoal}
-use Rattle.hir_raw.specs.declared.raw.RawGoal.TheVariants as goal
-use Rattle.hir_raw.specs.declared.raw.RawTraitRef.{RawTraitRef}
-use Rattle.hir_raw.specs.declared.raw.RawImpl.{RawImpl}
-use Rattle.hir_raw.specs.declared.raw.RawFacts.{RawFacts}
-use Rattle.hir_raw.specs.Goals.{arg_types}
-use Rattle.hir_raw.specs.Scope.{count_or_none, generic_params}
-use Rattle.hir_raw.specs.WrittenTypes.{filled_type, written_type}
-use Rattle.hir_facts.specs.Filled.{filled_folded}
-use Rattle.goal_answers.specs.Below.{hole_eq_true, pair_left, pair_right}
-use Rattle.goal_answers.specs.Reading.{Fill}
-use Rattle.goal_answers.specs.Goals.{Each, asked_at}
-use Rattle.goal_facts.specs.Arguments.{holes, instance, type_at, args_at, goal_at}
-use Rattle.goal_facts.specs.declared.impl_goals.RuleGoals.{RuleGoals}
-use Rattle.goal_facts.specs.Goals.{asked_goal}
-use Rattle.goal_facts.specs.Impls.{trait_rule, rules_for}
-use Rattle.goal_facts.specs.ImplGoals.{fresh, holes_from, HasHolesBelow, head_at, AreGoalsOf}
+use Rattle.goal_facts.specs.Words.hir_raw.declared.raw.RawGoal.TheVariants as goal
+use Rattle.goal_facts.specs.Own.{holes, instance, type_at, args_at, goal_at, RuleGoals, asked_goal, trait_rule, rules_for, fresh, holes_from, HasHolesBelow, head_at, AreGoalsOf}
 
 -- ---- a written type has no holes
 

@@ -8,3 +8,4 @@ pub mod Systems
 pub mod Typed
 pub mod Written
 pub mod TypesRead
+pub mod Words

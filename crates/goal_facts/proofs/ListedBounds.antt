@@ -2,23 +2,11 @@
 use Rattle.std.specs.Prelude.{◌≡◌, ℕ, zero, suc, true, List, refl}
 use Rattle.std.proofs.Common.{inl, inr, sym, ap, ◌∙◌, subst}
 use Rattle.std.proofs.lemmas.Bool.{or_left, or_right}
-use Rattle.hir_types.specs.declared.ids.TypeAliasId.{TypeAliasId}
+use Rattle.goal_facts.specs.Words.{TypeAliasId, Hole, GenericArg, Term, hole, leaf, pair, apply, occurs, RawGoal, RawFacts, hole_eq_same, Fill, Kind, implements, projects, Asked, key, self_type, IsNth, AreArgs, IsTraitKind, IsConcrete}
 use Rattle.hir_types.specs.declared.head.Head.TheVariants as head
-use Rattle.hir_types.specs.declared.head.Hole.{Hole}
 use Rattle.hir_types.specs.declared.head.Hole.TheVariants as hole_of
-use Rattle.hir_types.specs.declared.ty.GenericArg.{GenericArg}
-use Rattle.hir_types.specs.Terms.{Term, hole, leaf, pair, apply, occurs}
-use Rattle.hir_raw.specs.declared.raw.RawGoal.{RawGoal}
-use Rattle.hir_raw.specs.declared.raw.RawGoal.TheVariants as goal
-use Rattle.hir_raw.specs.declared.raw.RawFacts.{RawFacts}
-use Rattle.goal_answers.specs.Below.{hole_eq_same}
-use Rattle.goal_answers.specs.Reading.{Fill}
-use Rattle.goal_answers.specs.Goals.{Kind, implements, projects, Asked, key, self_type}
-use Rattle.goal_answers.specs.Rows.{IsNth, AreArgs}
-use Rattle.goal_answers.specs.Selecting.{IsTraitKind, IsConcrete}
-use Rattle.goal_facts.specs.Arguments.{goal_at}
-use Rattle.goal_facts.specs.Environment.{SaysAt, trait_holes, IsSuper, Follows}
-use Rattle.goal_facts.specs.Bounds.{BoundSays, IsListed}
+use Rattle.goal_facts.specs.Words.hir_raw.declared.raw.RawGoal.TheVariants as goal
+use Rattle.goal_facts.specs.Own.{goal_at, SaysAt, trait_holes, IsSuper, Follows, BoundSays, IsListed}
 
 abbrev IsStaying : Term → Type 0
 IsStaying (pair (leaf (head.AssociatedType k)) w) = Unit {0}

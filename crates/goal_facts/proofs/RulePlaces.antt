@@ -3,15 +3,8 @@ use Rattle.std.specs.Prelude.{◌≡◌, ◌+◌, ◌<◌, ℕ, zero, suc, List,
 use Rattle.std.proofs.Common.{sym, ap, ap₂, ◌∙◌, subst, arith, append_assoc}
 use Rattle.std.proofs.lemmas.List.{length-append}
 use Rattle.std.proofs.lemmas.Option.{same_Some}
-use Rattle.hir_types.specs.declared.ids.ImplId.{ImplId}
-use Rattle.hir_raw.specs.declared.raw.RawTraitRef.{RawTraitRef}
-use Rattle.hir_raw.specs.declared.raw.RawImpl.{RawImpl}
-use Rattle.hir_raw.specs.declared.raw.RawFacts.{RawFacts}
-use Rattle.goal_answers.specs.Goals.{Rule}
-use Rattle.goal_answers.specs.Selecting.{IsTraitKind, IsConcrete}
-use Rattle.goal_facts.specs.Impls.{trait_rule, assoc_rule, rules_for, impl_rules}
-use Rattle.goal_facts.specs.Systems.{fact, RulesAre}
-use Rattle.goal_facts.specs.ImplGoals.{ImplHasRule, ComesFrom, IsPlaceOf}
+use Rattle.goal_facts.specs.Words.{ImplId, RawTraitRef, RawImpl, RawFacts, Rule, IsTraitKind, IsConcrete}
+use Rattle.goal_facts.specs.Own.{trait_rule, assoc_rule, rules_for, impl_rules, fact, RulesAre, ImplHasRule, ComesFrom, IsPlaceOf}
 use Rattle.goal_facts.proofs.Adding.{get_in_map}
 use Rattle.goal_facts.proofs.ListedBounds.{listed_not_concrete}
 

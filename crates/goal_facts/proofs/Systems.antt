@@ -4,28 +4,10 @@ use Rattle.std.specs.Option.{option_and_then}
 use Rattle.std.proofs.Common.{inl, inr, sym, ap, ◌∙◌, subst}
 use Rattle.std.specs.declared.alloc.AllocError.{AllocError}
 use Rattle.std.proofs.lemmas.Option.{same_Some}
-use Rattle.hir_types.specs.Terms.{Term, hole}
-use Rattle.hir_types.specs.declared.ids.TypeAliasId.{TypeAliasId}
-use Rattle.hir_types.specs.declared.ids.GenericDefId.{GenericDefId}
-use Rattle.hir_types.specs.declared.ty.GenericArg.{GenericArg}
-use Rattle.hir_raw.specs.declared.raw.RawGoal.{RawGoal}
-use Rattle.hir_raw.specs.declared.raw.RawAlias.{RawAlias}
-use Rattle.hir_raw.specs.declared.raw.RawFacts.{RawFacts}
-use Rattle.hir_raw.specs.Scope.{generic_params}
-use Rattle.hir_facts.specs.Lawful.{IsLawful}
-use Rattle.goal_answers.specs.Goals.{Asked, System, Each, asked_at}
-use Rattle.goal_answers.specs.Steps.{known_below}
-use Rattle.goal_answers.proofs.Readings.{apply_hole}
-use Rattle.goal_search.specs.declared.answer.Answer.{Answer}
-use Rattle.goal_terms.specs.Terms.{HasHeads}
-use Rattle.goal_search.specs.Searching.{RuleHasHeads, Decides}
-use Rattle.goal_facts.specs.Arguments.{own_params, goal_at}
-use Rattle.goal_facts.specs.Additions.{Has, AreDistinct, AllHaveHeads, Adds, SomeSays}
-use Rattle.goal_facts.specs.Environment.{env_preds, IsOwn, IsStated, trait_holes, Follows, IsClosure}
-use Rattle.goal_facts.specs.Bounds.{BoundSays, AliasLists}
+use Rattle.goal_facts.specs.Words.{Term, hole, TypeAliasId, GenericDefId, GenericArg, RawGoal, RawAlias, RawFacts, generic_params, IsLawful, Asked, System, Each, asked_at, known_below, Answer, HasHeads, RuleHasHeads, Decides}
+use Rattle.goal_facts.proofs.Words.{apply_hole}
+use Rattle.goal_facts.specs.Own.{own_params, goal_at, Has, AreDistinct, AllHaveHeads, Adds, SomeSays, env_preds, IsOwn, IsStated, trait_holes, Follows, IsClosure, BoundSays, AliasLists, fact, IsAnswer}
 use Rattle.goal_facts.proofs.Adding.{adds_as, adds_then}
-use Rattle.goal_facts.specs.Systems.{fact}
-use Rattle.goal_facts.specs.Goals.{IsAnswer}
 
 -- ---- closures of what was added to nothing
 

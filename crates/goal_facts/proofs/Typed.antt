@@ -5,44 +5,14 @@ use Rattle.std.proofs.Common.{inl, inr, sym, ap, ◌∙◌, subst, true≢false,
 use Rattle.std.proofs.lemmas.Bool.{or_cases}
 use Rattle.std.proofs.lemmas.Option.{get_or_from_slice_get}
 use Rattle.std.proofs.lemmas.Result.{IfOk-weaker}
-use Rattle.hir_types.specs.declared.ids.TraitId.{TraitId}
-use Rattle.hir_types.specs.declared.ids.GenericDefId.{GenericDefId}
-use Rattle.hir_types.specs.declared.ids.TypeAliasId.{TypeAliasId}
-use Rattle.hir_types.specs.declared.ids.TypeRefId.{TypeRefId}
-use Rattle.hir_types.specs.declared.head.Hole.{Hole}
+use Rattle.goal_facts.specs.Words.{TraitId, GenericDefId, TypeAliasId, TypeRefId, Hole, Const, Ty, Ty-F, GenericArg, out-TraitRef, Goal, with_params, map_twice, instance_at_types, at_ty, replaced_var, Assignment, with_holes, folded, replaced, Term, hole, leaf, pair, apply, occurs, hole_number, chain, term, type_part, arg_term, terms_of, parts_of_types, arg_term_type, args_terms, term_folded, type_of_term, term_read, term_erased, const_term_tells, apply_agree, hole_eq_true, pair_left, pair_right, RawFacts, RawGoal, arg_types, count_or_none, params_in_trait, generic_params, written_type, filled_type, filled_folded, Fill, Kind, implements, projects, Asked, Rule, asked_at, IsNth, AreArgs}
 use Rattle.hir_types.specs.declared.head.Hole.TheVariants as hole_of
-use Rattle.hir_types.specs.declared.ty.Const.{Const}
 use Rattle.hir_types.specs.declared.ty.Const.TheVariants as const
-use Rattle.hir_types.specs.declared.ty.Ty.{Ty, Ty-F}
 use Rattle.hir_types.specs.declared.ty.Ty.TheVariants as ty
-use Rattle.hir_types.specs.declared.ty.GenericArg.{GenericArg}
 use Rattle.hir_types.specs.declared.ty.GenericArg.TheVariants as arg
-use Rattle.hir_types.specs.declared.ty.TraitRef.{out-TraitRef}
-use Rattle.hir_types.specs.declared.goal.Goal.{Goal}
 use Rattle.hir_types.specs.declared.goal.Goal.TheVariants as goal
-use Rattle.hir_types.specs.Assigned.{with_params}
-use Rattle.hir_types.specs.Folds.{map_twice}
-use Rattle.hir_types.specs.Instances.{instance_at_types}
-use Rattle.hir_types.specs.Replacements.{at_ty, replaced_var}
-use Rattle.hir_types.specs.Subst.{Assignment, with_holes, folded, replaced}
-use Rattle.hir_types.specs.Terms.{Term, hole, leaf, pair, apply, occurs, hole_number, chain, term, type_part, arg_term, terms_of}
-use Rattle.hir_types.specs.TermLaws.{parts_of_types, arg_term_type, args_terms, term_folded}
-use Rattle.hir_types.specs.Faithful.{type_of_term, term_read, term_erased, const_term_tells}
-use Rattle.goal_answers.specs.Below.{apply_agree, hole_eq_true, pair_left, pair_right}
-use Rattle.hir_raw.specs.declared.raw.RawFacts.{RawFacts}
-use Rattle.hir_raw.specs.declared.raw.RawGoal.{RawGoal}
-use Rattle.hir_raw.specs.declared.raw.RawGoal.TheVariants as raw_goal
-use Rattle.hir_raw.specs.Goals.{arg_types}
-use Rattle.hir_raw.specs.Scope.{count_or_none, params_in_trait, generic_params}
-use Rattle.hir_raw.specs.WrittenTypes.{written_type, filled_type}
-use Rattle.hir_facts.specs.Filled.{filled_folded}
-use Rattle.goal_answers.specs.Reading.{Fill}
-use Rattle.goal_answers.specs.Goals.{Kind, implements, projects, Asked, Rule, asked_at}
-use Rattle.goal_answers.specs.Rows.{IsNth, AreArgs}
-use Rattle.goal_facts.specs.Arguments.{holes, own_params, instance, goal_at}
-use Rattle.goal_facts.specs.Environment.{own_clause, IsStated, trait_holes, IsSuper, Follows}
-use Rattle.goal_facts.specs.Goals.{asked_goal}
-use Rattle.goal_facts.specs.Systems.{fact, ClausesAre}
+use Rattle.goal_facts.specs.Words.hir_raw.declared.raw.RawGoal.TheVariants as raw_goal
+use Rattle.goal_facts.specs.Own.{holes, own_params, instance, goal_at, own_clause, IsStated, trait_holes, IsSuper, Follows, asked_goal, fact, ClausesAre}
 use Rattle.goal_facts.proofs.Adding.{get_in_map}
 
 -- ---- goals about types

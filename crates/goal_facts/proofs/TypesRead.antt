@@ -1,15 +1,9 @@
 -- What a type reads as, or that it reads as none.
 use Rattle.std.specs.Prelude.{◌≡◌, ℕ, None}
 use Rattle.std.proofs.Common.{sym, ◌∙◌, subst}
-use Rattle.hir_types.specs.declared.ty.Ty.{Ty}
-use Rattle.hir_types.specs.Terms.{Term, hole, term}
-use Rattle.goal_answers.specs.Reading.{ReadsAs}
-use Rattle.goal_answers.specs.Goals.{System}
-use Rattle.goal_answers.specs.Answers.{answers}
-use Rattle.goal_answers.specs.Proofs.{IsOne}
-use Rattle.goal_answers.proofs.One.{answers_are_one}
-use Rattle.goal_answers.proofs.Readings.{reads_one}
-use Rattle.goal_facts.specs.Reading.{TypeReads, IsTypeRead}
+use Rattle.goal_facts.specs.Words.{Ty, Term, hole, term, ReadsAs, System, answers, IsOne}
+use Rattle.goal_facts.proofs.Words.{answers_are_one, reads_one}
+use Rattle.goal_facts.specs.Own.{TypeReads, IsTypeRead}
 
 module _ (f : System) (n : ℕ) (t : Ty) where
   one : IsOne (answers f n).Alias

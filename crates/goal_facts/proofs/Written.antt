@@ -1,24 +1,13 @@
 -- The terms of written types at arguments, by what they are written as.
 use Rattle.std.specs.Prelude.{◌≡◌, ℕ, zero, suc, List, [], ◌∷◌, map, slice_get, Option, Some, None, refl}
 use Rattle.std.proofs.Common.{sym, ap, ◌∙◌, subst}
-use Rattle.hir_types.specs.declared.ids.TypeAliasId.{TypeAliasId}
-use Rattle.hir_types.specs.declared.ids.TypeRefId.{TypeRefId}
+use Rattle.goal_facts.specs.Words.{TypeAliasId, TypeRefId, GenericArg, Ty, Ty-F, with_params, Replacement, replaced, args_replaced, at_ty, replaced_bool, replaced_char, replaced_int, replaced_uint, replaced_tuple, replaced_adt, replaced_param, replaced_error, arg_replaced_type, Term, pair, node, chain, type_part, term, arg_term, parts_of_types, term_bool, term_char, term_int, term_uint, term_tuple, term_adt, term_projection, term_error, term_hole, arg_term_type, RawType, RawFacts, filled_by, filled_within}
 use Rattle.hir_types.specs.declared.head.Head.TheVariants as head
 use Rattle.hir_types.specs.declared.ty.IntegerTy.TheVariants.{Int, Uint}
-use Rattle.hir_types.specs.declared.ty.GenericArg.{GenericArg}
 use Rattle.hir_types.specs.declared.ty.GenericArg.TheVariants as arg
-use Rattle.hir_types.specs.declared.ty.Ty.{Ty, Ty-F}
 use Rattle.hir_types.specs.declared.ty.Ty.TheVariants as ty
-use Rattle.hir_types.specs.Assigned.{with_params}
-use Rattle.hir_types.specs.Subst.{Replacement, replaced, args_replaced}
-use Rattle.hir_types.specs.Replacements.{at_ty, replaced_bool, replaced_char, replaced_int, replaced_uint, replaced_tuple, replaced_adt, replaced_param, replaced_error, arg_replaced_type}
-use Rattle.hir_types.specs.Terms.{Term, pair, node, chain, type_part, term, arg_term}
-use Rattle.hir_types.specs.TermLaws.{parts_of_types, term_bool, term_char, term_int, term_uint, term_tuple, term_adt, term_projection, term_error, term_hole, arg_term_type}
-use Rattle.hir_raw.specs.declared.raw.RawType.{RawType}
-use Rattle.hir_raw.specs.declared.raw.RawType.TheVariants as type
-use Rattle.hir_raw.specs.declared.raw.RawFacts.{RawFacts}
-use Rattle.hir_raw.specs.WrittenTypes.{filled_by, filled_within}
-use Rattle.goal_facts.specs.Arguments.{instance, type_at, args_at}
+use Rattle.goal_facts.specs.Words.hir_raw.declared.raw.RawType.TheVariants as type
+use Rattle.goal_facts.specs.Own.{instance, type_at, args_at}
 
 abbrev pub parts_by : (ℕ → Term) → List TypeRefId → List Term
 parts_by f ts = map (λ t. type_part (f t.0)) ts

@@ -1,7 +1,6 @@
 -- Lists of goals in which each stands once.
 use Rattle.std.specs.Prelude.{◌≡◌, ◌⊎◌, ◌<◌, ℕ, List, slice_get, Some}
-use Rattle.goal_answers.specs.Goals.{Asked}
-use Rattle.goal_terms.specs.Terms.{HasHeads}
+use Rattle.goal_facts.specs.Words.{Asked, HasHeads}
 
 abbrev pub Has : List Asked → Asked → Type 0
 Has ds d = (i : ℕ) × (slice_get ds i ≡ Some d)

@@ -1,20 +1,10 @@
 -- Written types and goals as terms, at arguments for the parameters in scope.
 use Rattle.std.specs.Prelude.{ℕ, List, map}
 use Rattle.std.specs.List.{range_with_len}
-use Rattle.hir_types.specs.declared.ids.TypeRefId.{TypeRefId}
-use Rattle.hir_types.specs.declared.ty.Ty.{Ty}
+use Rattle.goal_facts.specs.Words.{TypeRefId, Ty, GenericArg, replaced, with_params, Term, pair, chain, term, arg_term, RawGoal, RawFacts, arg_types, written_type, Asked, implements, projects}
 use Rattle.hir_types.specs.declared.ty.Ty.TheVariants as ty
-use Rattle.hir_types.specs.declared.ty.GenericArg.{GenericArg}
 use Rattle.hir_types.specs.declared.ty.GenericArg.TheVariants as arg
-use Rattle.hir_types.specs.Subst.{replaced}
-use Rattle.hir_types.specs.Assigned.{with_params}
-use Rattle.hir_types.specs.Terms.{Term, pair, chain, term, arg_term}
-use Rattle.hir_raw.specs.declared.raw.RawGoal.{RawGoal}
-use Rattle.hir_raw.specs.declared.raw.RawGoal.TheVariants as goal
-use Rattle.hir_raw.specs.declared.raw.RawFacts.{RawFacts}
-use Rattle.hir_raw.specs.Goals.{arg_types}
-use Rattle.hir_raw.specs.WrittenTypes.{written_type}
-use Rattle.goal_answers.specs.Goals.{Asked, implements, projects}
+use Rattle.goal_facts.specs.Words.hir_raw.declared.raw.RawGoal.TheVariants as goal
 
 -- a hole for each parameter, and each by itself
 abbrev pub holes : ℕ → List GenericArg

@@ -1,14 +1,6 @@
 -- The bounds that are listed at associated types: The Rust Reference, "Associated types", "Trait bounds".
 use Rattle.std.specs.Prelude.{◌≡◌, ℕ, List, ◌∷◌, map}
-use Rattle.hir_types.specs.declared.ids.TypeAliasId.{TypeAliasId}
-use Rattle.hir_types.specs.declared.ids.TypeRefId.{TypeRefId}
-use Rattle.hir_types.specs.declared.ty.GenericArg.{GenericArg}
-use Rattle.hir_types.specs.Terms.{pair, chain, type_part, arg_term}
-use Rattle.hir_raw.specs.declared.raw.RawGoal.{RawGoal}
-use Rattle.hir_raw.specs.declared.raw.RawAlias.{RawAlias}
-use Rattle.hir_raw.specs.declared.raw.RawFacts.{RawFacts}
-use Rattle.goal_answers.specs.Reading.{alias_at, staying}
-use Rattle.goal_answers.specs.Goals.{Asked}
+use Rattle.goal_facts.specs.Words.{TypeAliasId, TypeRefId, GenericArg, pair, chain, type_part, arg_term, RawGoal, RawAlias, RawFacts, alias_at, staying, Asked}
 use Rattle.goal_facts.specs.Arguments.{type_at, args_at, goal_types, goal_with}
 use Rattle.goal_facts.specs.Additions.{SomeSays}
 use Rattle.goal_facts.specs.Environment.{trait_holes}

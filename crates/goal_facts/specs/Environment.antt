@@ -1,18 +1,9 @@
 -- The clauses of an environment, and what follows from clauses along supertraits: The Rust Reference, "Trait and lifetime
 -- bounds", "Supertraits".
 use Rattle.std.specs.Prelude.{◌≡◌, ◌⊎◌, ℕ, zero, suc, List, [], map, slice_get, Option, Some, None, option_map, unwrap_or}
-use Rattle.hir_types.specs.declared.ids.TraitId.{TraitId}
-use Rattle.hir_types.specs.declared.ids.GenericDefId.{GenericDefId}
+use Rattle.goal_facts.specs.Words.{TraitId, GenericDefId, GenericArg, Term, hole, chain, arg_term, RawGoal, RawFacts, count_or_none, params_in_trait, generic_params, Fill, Asked, implements, asked_at, key, self_type, AreArgs}
 use Rattle.hir_types.specs.declared.ids.GenericDefId.TheVariants as generic
-use Rattle.hir_types.specs.declared.ty.GenericArg.{GenericArg}
 use Rattle.hir_types.specs.declared.head.Hole.TheVariants as hole_of
-use Rattle.hir_types.specs.Terms.{Term, hole, chain, arg_term}
-use Rattle.hir_raw.specs.declared.raw.RawGoal.{RawGoal}
-use Rattle.hir_raw.specs.declared.raw.RawFacts.{RawFacts}
-use Rattle.hir_raw.specs.Scope.{count_or_none, params_in_trait, generic_params}
-use Rattle.goal_answers.specs.Reading.{Fill}
-use Rattle.goal_answers.specs.Goals.{Asked, implements, asked_at, key, self_type}
-use Rattle.goal_answers.specs.Rows.{AreArgs}
 use Rattle.goal_facts.specs.Arguments.{holes, own_params, goal_at}
 use Rattle.goal_facts.specs.Additions.{SomeSays, Has, AreDistinct}
 

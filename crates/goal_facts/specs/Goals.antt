@@ -1,16 +1,7 @@
 -- The goals of inference, and their answers at the depth to which the facts let goals be followed.
 use Rattle.std.specs.Prelude.{ℕ, map}
-use Rattle.hir_types.specs.declared.ids.GenericDefId.{GenericDefId}
-use Rattle.hir_types.specs.declared.goal.Goal.{Goal}
+use Rattle.goal_facts.specs.Words.{GenericDefId, Goal, TraitRef, out-TraitRef, pair, chain, term, arg_term, RawFacts, Asked, System, implements, projects, answers, Answer, Sources, Decides}
 use Rattle.hir_types.specs.declared.goal.Goal.TheVariants as goal
-use Rattle.hir_types.specs.declared.ty.TraitRef.{TraitRef, out-TraitRef}
-use Rattle.hir_types.specs.Terms.{pair, chain, term, arg_term}
-use Rattle.hir_raw.specs.declared.raw.RawFacts.{RawFacts}
-use Rattle.goal_answers.specs.Goals.{Asked, System, implements, projects}
-use Rattle.goal_answers.specs.Answers.{answers}
-use Rattle.goal_search.specs.declared.answer.Answer.{Answer}
-use Rattle.goal_search.specs.declared.sources.Sources.{Sources}
-use Rattle.goal_search.specs.Searching.{Decides}
 
 abbrev pub trait_goal : TraitRef → Asked
 trait_goal r = record { kind = implements (out-TraitRef r).id; parts = chain (map arg_term (out-TraitRef r).args) }

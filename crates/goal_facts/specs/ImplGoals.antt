@@ -1,21 +1,11 @@
 -- What an impl says as goals over types, with fresh holes for its parameters.
 use Rattle.std.specs.Prelude.{◌≡◌, ◌+◌, ◌<◌, ℕ, true, List, ◌∷◌, length, map, flat_map, take, slice_get, Option, Some, None}
 use Rattle.std.specs.List.{range_with_len}
-use Rattle.hir_types.specs.declared.ids.ImplId.{ImplId}
+use Rattle.goal_facts.specs.Words.{ImplId, Hole, GenericArg, Term, hole, occurs, RawTraitRef, RawImpl, RawFacts, arg_types, generic_params, Fill, Asked, Rule, implements, asked_at, Each}
 use Rattle.hir_types.specs.declared.ids.GenericDefId.TheVariants as generic
-use Rattle.hir_types.specs.declared.head.Hole.{Hole}
 use Rattle.hir_types.specs.declared.head.Hole.TheVariants as hole_of
 use Rattle.hir_types.specs.declared.ty.Ty.TheVariants as ty
-use Rattle.hir_types.specs.declared.ty.GenericArg.{GenericArg}
 use Rattle.hir_types.specs.declared.ty.GenericArg.TheVariants as arg
-use Rattle.hir_types.specs.Terms.{Term, hole, occurs}
-use Rattle.hir_raw.specs.declared.raw.RawTraitRef.{RawTraitRef}
-use Rattle.hir_raw.specs.declared.raw.RawImpl.{RawImpl}
-use Rattle.hir_raw.specs.declared.raw.RawFacts.{RawFacts}
-use Rattle.hir_raw.specs.Goals.{arg_types}
-use Rattle.hir_raw.specs.Scope.{generic_params}
-use Rattle.goal_answers.specs.Reading.{Fill}
-use Rattle.goal_answers.specs.Goals.{Asked, Rule, implements, asked_at, Each}
 use Rattle.goal_facts.specs.declared.impl_goals.RuleGoals.{RuleGoals}
 use Rattle.goal_facts.specs.Arguments.{args_at, goal_at}
 use Rattle.goal_facts.specs.Environment.{Follows}

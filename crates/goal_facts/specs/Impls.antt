@@ -1,13 +1,6 @@
 -- What impls say: The Rust Reference, "Implementations".
 use Rattle.std.specs.Prelude.{List, [], ◌∷◌, map, length, Option, Some, None}
-use Rattle.hir_types.specs.declared.ty.GenericArg.{GenericArg}
-use Rattle.hir_types.specs.Terms.{Term, pair}
-use Rattle.hir_raw.specs.declared.raw.RawTraitRef.{RawTraitRef}
-use Rattle.hir_raw.specs.declared.raw.RawAssocType.{RawAssocType}
-use Rattle.hir_raw.specs.declared.raw.RawImpl.{RawImpl}
-use Rattle.hir_raw.specs.declared.raw.RawFacts.{RawFacts}
-use Rattle.hir_raw.specs.Goals.{arg_types}
-use Rattle.goal_answers.specs.Goals.{Asked, Rule, implements, projects}
+use Rattle.goal_facts.specs.Words.{GenericArg, Term, pair, RawTraitRef, RawAssocType, RawImpl, RawFacts, arg_types, Asked, Rule, implements, projects}
 use Rattle.goal_facts.specs.Arguments.{holes, type_at, args_at, goal_at}
 
 abbrev pub impl_holes : RawImpl → List GenericArg

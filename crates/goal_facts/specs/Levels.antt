@@ -1,11 +1,6 @@
 -- What one step along supertraits adds.
 use Rattle.std.specs.Prelude.{◌≡◌, ◌≤◌, ◌<◌, ℕ, List, length, slice_get, Option, Some, None}
-use Rattle.hir_types.specs.declared.ids.TypeAliasId.{TypeAliasId}
-use Rattle.hir_types.specs.declared.ty.GenericArg.{GenericArg}
-use Rattle.hir_types.specs.Terms.{Term}
-use Rattle.hir_raw.specs.declared.raw.RawGoal.{RawGoal}
-use Rattle.hir_raw.specs.declared.raw.RawFacts.{RawFacts}
-use Rattle.goal_answers.specs.Goals.{Asked}
+use Rattle.goal_facts.specs.Words.{TypeAliasId, GenericArg, Term, RawGoal, RawFacts, Asked}
 use Rattle.goal_facts.specs.Additions.{Has, AllHaveHeads}
 use Rattle.goal_facts.specs.Environment.{SaysAt, IsSuper, IsClosure}
 use Rattle.goal_facts.specs.Bounds.{BoundSays}

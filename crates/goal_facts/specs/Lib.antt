@@ -9,4 +9,5 @@ pub mod Goals
 pub mod Proofs
 pub mod ImplGoals
 pub mod Reading
-pub mod Below
+pub mod Words
+pub mod Own

@@ -1,18 +1,7 @@
 -- Lists of proofs: what a source asks for, and that each proof of a list holds.
 use Rattle.std.specs.Prelude.{◌≡◌, ◌⊎◌, ◌<◌, ℕ, true, List, [], ◌∷◌, length, map, slice_get, Option, Some}
-use Rattle.hir_types.specs.declared.ids.ImplId.{ImplId}
-use Rattle.hir_types.specs.declared.goal.Goal.{Goal}
-use Rattle.hir_types.specs.declared.head.Hole.{Hole}
-use Rattle.hir_types.specs.declared.ty.GenericArg.{GenericArg}
+use Rattle.goal_facts.specs.Words.{ImplId, Goal, Hole, GenericArg, Term, hole, apply, term, hole_number, RawImpl, RawFacts, State, Meets, Fill, IsFilling, Aliases, Reads, ReadsAs, Asked, Rule, System, asked_at, only, is_among, Each, IsItself, Shadows, answers, CopiesParts}
 use Rattle.hir_types.specs.declared.ty.GenericArg.TheVariants as arg
-use Rattle.hir_types.specs.Terms.{Term, hole, apply, term, hole_number}
-use Rattle.hir_raw.specs.declared.raw.RawImpl.{RawImpl}
-use Rattle.hir_raw.specs.declared.raw.RawFacts.{RawFacts}
-use Rattle.goal_answers.specs.Below.{State, Meets}
-use Rattle.goal_answers.specs.Reading.{Fill, IsFilling, Aliases, Reads, ReadsAs}
-use Rattle.goal_answers.specs.Goals.{Asked, Rule, System, asked_at, only, is_among, Each}
-use Rattle.goal_answers.specs.Answers.{IsItself, Shadows, answers}
-use Rattle.goal_answers.specs.Selecting.{CopiesParts}
 use Rattle.goal_facts.specs.declared.proof.Proof.{Proof}
 use Rattle.goal_facts.specs.declared.proof.ProofSource.{ProofSource}
 use Rattle.goal_facts.specs.declared.proof.ProofSource.TheVariants as source

@@ -1,10 +1,6 @@
 -- What types read as.
 use Rattle.std.specs.Prelude.{◌≡◌, ◌⊎◌, ℕ, Option, Some, None}
-use Rattle.hir_types.specs.declared.ty.Ty.{Ty}
-use Rattle.hir_types.specs.Terms.{term}
-use Rattle.goal_answers.specs.Reading.{ReadsAs}
-use Rattle.goal_answers.specs.Goals.{System}
-use Rattle.goal_answers.specs.Answers.{answers}
+use Rattle.goal_facts.specs.Words.{Ty, term, ReadsAs, System, answers}
 
 -- the type reads as the type at the depth; its holes stay
 abbrev pub TypeReads : System → ℕ → Ty → Ty → Type 0

@@ -1,18 +1,9 @@
 -- What the goals of an item are answered by.
 use Rattle.std.specs.Prelude.{◌≡◌, ◌++◌, ◌-◌, List, [], ◌∷◌, map, length, slice_get, Option, None, option_map, flat_map}
 use Rattle.std.specs.Option.{option_and_then}
-use Rattle.hir_types.specs.declared.ids.AdtId.{AdtId}
-use Rattle.hir_types.specs.declared.ids.TraitId.{TraitId}
-use Rattle.hir_types.specs.declared.ids.GenericDefId.{GenericDefId}
-use Rattle.hir_types.specs.Terms.{Term}
-use Rattle.hir_raw.specs.declared.raw.RawAdt.{RawAdt}
-use Rattle.hir_raw.specs.declared.raw.RawAdtKind.{RawAdtKind}
-use Rattle.hir_raw.specs.declared.raw.RawAdtKind.TheVariants as kind
-use Rattle.hir_raw.specs.declared.raw.RawLang.{RawLang}
-use Rattle.hir_raw.specs.declared.raw.RawLang.TheVariants as lang
-use Rattle.hir_raw.specs.declared.raw.RawVariant.{RawVariant}
-use Rattle.hir_raw.specs.declared.raw.RawFacts.{RawFacts}
-use Rattle.goal_answers.specs.Goals.{Asked, Rule, System}
+use Rattle.goal_facts.specs.Words.{AdtId, TraitId, GenericDefId, Term, RawAdt, RawAdtKind, RawLang, RawVariant, RawFacts, Asked, Rule, System}
+use Rattle.goal_facts.specs.Words.hir_raw.declared.raw.RawAdtKind.TheVariants as kind
+use Rattle.goal_facts.specs.Words.hir_raw.declared.raw.RawLang.TheVariants as lang
 use Rattle.goal_facts.specs.Arguments.{holes, type_at}
 use Rattle.goal_facts.specs.Environment.{IsStated, IsClosure}
 use Rattle.goal_facts.specs.Bounds.{IsListed}

@@ -1,8 +1,7 @@
 //! Lists of goals in which each stands once.
 ghost use Rattle.std.specs.Prelude.{◌≡◌, ◌↔◌, IsTrue, OnOk};
-ghost use Rattle.goal_terms.specs.Terms.{term_of, HasHeads};
-ghost use Rattle.goal_search.specs.Sources.{asked_of, asked_list};
-ghost use Rattle.goal_facts.specs.Additions.{Has, Adds};
+ghost use Rattle.goal_facts.specs.Words.{term_of, HasHeads, asked_of, asked_list};
+ghost use Rattle.goal_facts.specs.Own.{Has, Adds};
 
 use goal_search::{Asked, is_same_kind};
 use std::alloc::AllocError;

@@ -1,20 +1,14 @@
 //! The bounds that are listed at associated types.
 ghost use Rattle.std.specs.Prelude.{◌≡◌, ◌↔◌, [], option_map, IsTrue, IfOk, IfSome, OnOk, map};
-ghost use Rattle.hir_types.specs.Terms.{chain, pair, type_part, arg_term};
-ghost use Rattle.goal_answers.specs.Reading.{alias_at, staying};
-ghost use Rattle.goal_terms.specs.Terms.{term_of, IsHead, HasHeads};
-ghost use Rattle.goal_search.specs.Sources.{asked_of, asked_list};
-ghost use Rattle.goal_facts.specs.Arguments.{type_at, args_at};
-ghost use Rattle.goal_facts.specs.Additions.{Adds, SomeSays};
-ghost use Rattle.goal_facts.specs.Bounds.{BoundSays, IsListed};
-ghost use Rattle.goal_facts.specs.Levels.{BoundSaysIf};
+ghost use Rattle.goal_facts.specs.Words.{chain, pair, type_part, arg_term, alias_at, staying, term_of, IsHead, HasHeads, asked_of, asked_list};
+ghost use Rattle.goal_facts.specs.Own.{type_at, args_at, Adds, SomeSays, BoundSays, IsListed, BoundSaysIf};
 
 use crate::additions::add;
 use crate::arguments::{args_at, goal_types, goal_with, holes, type_at};
 use goal_search::Asked;
-use goal_terms::{Term, args_term, staying_term};
+use goal_search::goal_terms::{Term, args_term, staying_term};
+use hir_facts::hir_raw::generic_params;
 use hir_facts::{Facts, GenericArg, GenericDefId, List, RawGoal, TypeAliasId, TypeRefId};
-use hir_raw::generic_params;
 use hir_types::Head;
 use std::alloc::{AllocError, Global};
 

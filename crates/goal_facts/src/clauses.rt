@@ -1,19 +1,13 @@
 //! The clauses of an item, as goals of inference.
 ghost use Rattle.std.specs.Prelude.{◌≡◌, ◌↔◌, ◌<◌, List, length, slice_get, Some, IsTrue, IfOk, map};
-ghost use Rattle.hir_types.specs.declared.ty.Ty.{Ty};
-ghost use Rattle.hir_types.specs.declared.ty.GenericArg.{GenericArg};
-ghost use Rattle.hir_types.specs.declared.goal.Goal.{Goal};
-ghost use Rattle.hir_types.specs.Terms.{pair, chain, term, arg_term};
-ghost use Rattle.goal_answers.specs.Goals.{implements, projects, Rule, SomeOf};
-ghost use Rattle.goal_terms.specs.Terms.{term_of};
-ghost use Rattle.goal_search.specs.Sources.{asked_of, rules_of, system};
-ghost use Rattle.goal_facts.specs.Goals.{asked_goal};
+ghost use Rattle.goal_facts.specs.Words.{Ty, GenericArg, Goal, pair, chain, term, arg_term, implements, projects, Rule, SomeOf, term_of, asked_of, rules_of, system};
+ghost use Rattle.goal_facts.specs.Own.{asked_goal};
 
 use crate::additions::is_same;
 use crate::goals::asked;
 use crate::item_sources::ItemSources;
+use goal_search::goal_terms::{Term, term_args, term_type};
 use goal_search::{Asked, Kind};
-use goal_terms::{Term, term_args, term_type};
 use hir_facts::{Goal, List, TraitId, TraitRef, Ty, TypeAliasId};
 use std::alloc::{AllocError, Global};
 
@@ -26,7 +20,7 @@ fn trait_goal(alloc: Global, id: TraitId, parts: &Term) -> Result<Goal, AllocErr
 }
 
 /// The goal that an associated type at arguments is a type.
-#[tactic(auto, using(goal_terms::specs::Terms::term_is))]
+#[tactic(auto, using(crate::specs::Words::term_is))]
 fn projection_goal(alloc: Global, alias: TypeAliasId, parts: &Term) -> Result<Goal, AllocError>
     ensures { IfOk result (λ made. (xs : List GenericArg) (t : Ty) → pair (chain (map arg_term xs)) (term t) ≡ term_of parts.now → asked_goal made ≡ record { kind = projects alias; parts = term_of parts.now }) }
 {

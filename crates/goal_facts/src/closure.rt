@@ -1,20 +1,16 @@
 //! What follows from goals along supertraits.
 ghost use Rattle.std.specs.Prelude.{◌≡◌, ◌<◌, ◌≤◌, ◌↔◌, length, slice_get, Some, option_map, IsTrue, IfOk, IfSome, OnOk};
 ghost use Rattle.hir_types.specs.declared.head.Hole.TheVariants as hole_of;
-ghost use Rattle.hir_types.specs.Terms.{hole};
-ghost use Rattle.goal_terms.specs.Terms.{term_of, HasHeads};
-ghost use Rattle.goal_search.specs.Sources.{kind_of, asked_of, asked_list};
-ghost use Rattle.goal_facts.specs.Additions.{Adds, SomeSays, Has, AreDistinct, AllHaveHeads};
-ghost use Rattle.goal_facts.specs.Environment.{SaysAt, IsSuper, IsClosure};
-ghost use Rattle.goal_facts.specs.Levels.{SaysIf, SomeSuper};
+ghost use Rattle.goal_facts.specs.Words.{hole, term_of, HasHeads, kind_of, asked_of, asked_list};
+ghost use Rattle.goal_facts.specs.Own.{Adds, SomeSays, Has, AreDistinct, AllHaveHeads, SaysAt, IsSuper, IsClosure, SaysIf, SomeSuper};
 
 use crate::additions::add;
 use crate::arguments::{goal_at, holes};
 use crate::environment::trait_preds;
+use goal_search::goal_terms::Term;
 use goal_search::{Asked, Kind, field_at, key_of, self_type};
-use goal_terms::Term;
+use hir_facts::hir_raw::generic_params;
 use hir_facts::{Facts, GenericArg, GenericDefId, List, RawGoal};
-use hir_raw::generic_params;
 use hir_types::{Head, Hole};
 use std::alloc::{AllocError, Global};
 

@@ -1,17 +1,14 @@
 //! What an item states of its parameters.
 ghost use Rattle.std.specs.Prelude.{◌≡◌, [], IfOk, OnOk};
-ghost use Rattle.goal_terms.specs.Terms.{term_of, HasHeads};
-ghost use Rattle.goal_search.specs.Sources.{asked_of, asked_list};
-ghost use Rattle.goal_facts.specs.Arguments.{goal_at, own_params};
-ghost use Rattle.goal_facts.specs.Additions.{Adds, SomeSays};
-ghost use Rattle.goal_facts.specs.Environment.{trait_preds, env_trait, preds_of_trait, env_preds, own_clause, IsOwn, IsStated};
+ghost use Rattle.goal_facts.specs.Words.{term_of, HasHeads, asked_of, asked_list};
+ghost use Rattle.goal_facts.specs.Own.{goal_at, own_params, Adds, SomeSays, trait_preds, env_trait, preds_of_trait, env_preds, own_clause, IsOwn, IsStated};
 
 use crate::additions::add;
 use crate::arguments::{goal_at, own_params};
+use goal_search::goal_terms::args_term;
 use goal_search::{Asked, Kind};
-use goal_terms::args_term;
+use hir_facts::hir_raw::generic_params;
 use hir_facts::{Facts, GenericArg, GenericDefId, List, RawFacts, RawGoal, TraitId};
-use hir_raw::generic_params;
 use std::alloc::{AllocError, Global};
 
 /// The predicates of a trait.

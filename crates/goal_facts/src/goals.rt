@@ -1,11 +1,10 @@
 //! Goals of inference, as the search has them.
 ghost use Rattle.std.specs.Prelude.{◌≡◌, IfOk};
-ghost use Rattle.goal_terms.specs.Terms.{term_of, HasHeads};
-ghost use Rattle.goal_search.specs.Sources.{asked_of};
-ghost use Rattle.goal_facts.specs.Goals.{asked_goal};
+ghost use Rattle.goal_facts.specs.Words.{term_of, HasHeads, asked_of};
+ghost use Rattle.goal_facts.specs.Own.{asked_goal};
 
+use goal_search::goal_terms::{Term, args_term, type_term};
 use goal_search::{Asked, Kind};
-use goal_terms::{Term, args_term, type_term};
 use hir_facts::Goal;
 use std::alloc::{AllocError, Global};
 

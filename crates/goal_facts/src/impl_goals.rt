@@ -1,14 +1,7 @@
 //! What an impl says as goals over types, with fresh holes for its parameters.
 ghost use Rattle.std.specs.Prelude.{◌≡◌, ◌++◌, ◌∷◌, ◌<◌, length, slice_get, Some, map, IfOk};
-ghost use Rattle.hir_raw.specs.declared.raw.RawFacts.{RawFacts};
-ghost use Rattle.hir_raw.specs.declared.raw.RawImpl.{RawImpl};
-ghost use Rattle.goal_answers.specs.Goals.{Rule};
-ghost use Rattle.goal_answers.specs.Selecting.{IsTraitKind, IsConcrete};
-ghost use Rattle.goal_search.specs.Sources.{system};
-ghost use Rattle.goal_facts.specs.Arguments.{goal_at};
-ghost use Rattle.goal_facts.specs.Goals.{trait_goal, asked_goal};
-ghost use Rattle.goal_facts.specs.Impls.{impl_holes, trait_rule, impl_rules};
-ghost use Rattle.goal_facts.specs.ImplGoals.{holes_from, ImplHasRule, ComesFrom, head_at, AreGoalsOf, AreGoalsAt, AreGoalsIf, IsPlaceBehind, IsPlaceOf};
+ghost use Rattle.goal_facts.specs.Words.{RawFacts, RawImpl, Rule, IsTraitKind, IsConcrete, system};
+ghost use Rattle.goal_facts.specs.Own.{goal_at, trait_goal, asked_goal, impl_holes, trait_rule, impl_rules, holes_from, ImplHasRule, ComesFrom, head_at, AreGoalsOf, AreGoalsAt, AreGoalsIf, IsPlaceBehind, IsPlaceOf};
 
 use crate::arguments::{goal_types, holes, instance, push_instances};
 use crate::item_sources::ItemSources;

@@ -1,15 +1,11 @@
 //! What impls say.
 ghost use Rattle.std.specs.Prelude.{◌≡◌, ◌++◌, Some, map, flat_map, IfOk, OnOk};
-ghost use Rattle.goal_answers.specs.Goals.{Each};
-ghost use Rattle.goal_terms.specs.Terms.{term_of, IsHead, HasHeads};
-ghost use Rattle.goal_search.specs.Sources.{asked_of, asked_list, rule_of, rules_of};
-ghost use Rattle.goal_search.specs.Searching.{RuleHasHeads};
-ghost use Rattle.goal_facts.specs.Arguments.{goal_at};
-ghost use Rattle.goal_facts.specs.Impls.{impl_holes, impl_rule, impl_args, assoc_rule, rules_for, impl_rules};
+ghost use Rattle.goal_facts.specs.Words.{Each, term_of, IsHead, HasHeads, asked_of, asked_list, rule_of, rules_of, RuleHasHeads};
+ghost use Rattle.goal_facts.specs.Own.{goal_at, impl_holes, impl_rule, impl_args, assoc_rule, rules_for, impl_rules};
 
 use crate::arguments::{args_after, goal_at, holes, type_at};
+use goal_search::goal_terms::Term;
 use goal_search::{Asked, Kind, Rule};
-use goal_terms::Term;
 use hir_facts::{Facts, GenericArg, List, RawAssocType, RawGoal, RawImpl, RawTraitRef};
 use std::alloc::{AllocError, Global};
 

@@ -1,19 +1,12 @@
 //! What the goals of an item are answered by, and the answers.
 ghost use Rattle.std.specs.Prelude.{◌≡◌, ◌↔◌, IsTrue, IfOk, option_map};
-ghost use Rattle.hir_types.specs.Terms.{term};
-ghost use Rattle.goal_answers.specs.Goals.{implements, is_among};
-ghost use Rattle.goal_answers.specs.Selecting.{IsChoice};
-ghost use Rattle.goal_search.specs.Sources.{system};
-ghost use Rattle.goal_search.specs.Searching.{SystemHasHeads};
-ghost use Rattle.goal_search.specs.Sized.{IsSizedAt};
-ghost use Rattle.goal_search.specs.Choosing.{choice_of};
-ghost use Rattle.goal_facts.specs.Goals.{asked_goal, IsAnswer};
-ghost use Rattle.goal_facts.specs.Systems.{IsSystemOf};
+ghost use Rattle.goal_facts.specs.Words.{term, implements, is_among, IsChoice, system, SystemHasHeads, IsSizedAt, choice_of};
+ghost use Rattle.goal_facts.specs.Own.{asked_goal, IsAnswer, IsSystemOf};
 
 use crate::goals::asked;
 use crate::sources::sources_of;
+use goal_search::goal_terms::type_term;
 use goal_search::{Answer, Choice, Holes, Kind, Search, Sources, is_among};
-use goal_terms::type_term;
 use hir_facts::{Facts, GenericDefId, Goal, TraitId, Ty};
 use std::alloc::{AllocError, Global};
 use std::marker::Model;
@@ -28,10 +21,9 @@ pub struct ItemSources<'a> {
 }
 
 impl<'a> Model for ItemSources<'a> {
-    ghost use Rattle.goal_terms.specs.contracts.term.Term as term;
+    ghost use Rattle.goal_facts.specs.Words.goal_terms.contracts.term.Term as term;
     ghost use Rattle.std.specs.Coded.{codes};
-    ghost use Rattle.goal_search.specs.Sources.{system};
-    ghost use Rattle.goal_search.specs.Searching.{SystemHasHeads};
+    ghost use Rattle.goal_facts.specs.Words.{system, SystemHasHeads};
     ghost use Rattle.goal_facts.specs.Goals.{ItemSources};
     ghost use Rattle.goal_facts.specs.Systems.{IsSystemOf};
 

@@ -1,21 +1,15 @@
 //! All that the goals of an item are answered by.
 ghost use Rattle.std.specs.Prelude.{◌≡◌, ◌++◌, map, option_map, flat_map, IfOk, IfSome, OnOk};
-ghost use Rattle.goal_answers.specs.Goals.{Each};
-ghost use Rattle.goal_terms.specs.Terms.{term_of, HasHeads};
-ghost use Rattle.goal_search.specs.Sources.{asked_list, rules_of, system};
-ghost use Rattle.goal_search.specs.Searching.{RuleHasHeads, SystemHasHeads};
-ghost use Rattle.goal_facts.specs.Additions.{AllHaveHeads};
-ghost use Rattle.goal_facts.specs.Environment.{IsStated, IsClosure};
-ghost use Rattle.goal_facts.specs.Bounds.{IsListed};
-ghost use Rattle.goal_facts.specs.Systems.{fact, sized_by, copied_by, variant_of, last_field_of, RulesAre, IsSystemOf};
+ghost use Rattle.goal_facts.specs.Words.{Each, term_of, HasHeads, asked_list, rules_of, system, RuleHasHeads, SystemHasHeads};
+ghost use Rattle.goal_facts.specs.Own.{AllHaveHeads, IsStated, IsClosure, IsListed, fact, sized_by, copied_by, variant_of, last_field_of, RulesAre, IsSystemOf};
 
 use crate::arguments::{holes, type_at};
 use crate::bounds::listed;
 use crate::closure::close;
 use crate::environment::stated;
 use crate::impls::push_impl_rules;
+use goal_search::goal_terms::Term;
 use goal_search::{Asked, Rule, Sources};
-use goal_terms::Term;
 use hir_facts::{Facts, GenericDefId, RawAdt, RawAdtKind, RawFacts, RawLang, RawVariant, TraitId};
 use std::alloc::{AllocError, Global};
 

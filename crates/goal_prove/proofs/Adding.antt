@@ -1,16 +1,9 @@
 -- Proofs that are added behind others.
 use Rattle.std.specs.Prelude.{ℕ, List, [], ◌∷◌, ◌++◌, length}
 use Rattle.std.proofs.Common.{inl, inr, refl, sym, ap, ◌∙◌, subst, append_assoc}
-use Rattle.hir_raw.specs.declared.raw.RawFacts.{RawFacts}
-use Rattle.infer_table.specs.Table.{IsFront}
-use Rattle.infer_table.proofs.BindingLaws.{get_left, get_last, get_more}
-use Rattle.infer_table.proofs.UndoLaws.{front_itself}
-use Rattle.goal_answers.specs.Reading.{Fill, IsFilling, Aliases}
-use Rattle.goal_answers.specs.Goals.{Asked, System}
-use Rattle.goal_answers.specs.Answers.{answers}
-use Rattle.goal_facts.specs.declared.proof.Proof.{Proof}
-use Rattle.goal_facts.specs.Proofs.{AreProofsOf, Holds, AreProofs}
-use Rattle.goal_prove.specs.Entries.{AddsProofs, IsProofAt}
+use Rattle.goal_prove.specs.Words.{RawFacts, IsFront, Fill, IsFilling, Aliases, Asked, System, answers, Proof, AreProofsOf, Holds, AreProofs}
+use Rattle.goal_prove.proofs.Words.{get_left, get_last, get_more, front_itself}
+use Rattle.goal_prove.specs.Own.{AddsProofs, IsProofAt}
 
 -- ---- fronts
 

@@ -2,30 +2,11 @@
 use Rattle.std.specs.Prelude.{◌≡◌, ℕ, zero, suc, true, List, [], ◌∷◌, map, flat_map, slice_get, Some, refl}
 use Rattle.std.proofs.Common.{inl, inr, sym, subst}
 use Rattle.std.proofs.lemmas.Bool.{or_left, or_right}
-use Rattle.hir_types.specs.declared.ids.ImplId.{ImplId}
-use Rattle.hir_types.specs.declared.ids.TypeAliasId.{TypeAliasId}
-use Rattle.hir_types.specs.declared.ids.GenericDefId.{GenericDefId}
-use Rattle.hir_types.specs.declared.head.Hole.{Hole}
-use Rattle.hir_types.specs.Terms.{Term, hole, pair, occurs}
-use Rattle.hir_raw.specs.declared.raw.RawGoal.{RawGoal}
-use Rattle.hir_raw.specs.declared.raw.RawGoal.TheVariants as goal
-use Rattle.hir_raw.specs.declared.raw.RawFacts.{RawFacts}
-use Rattle.hir_raw.specs.Goals.{arg_types}
-use Rattle.goal_answers.specs.Reading.{Fill, Role, Aliases, Reads}
-use Rattle.goal_answers.specs.Goals.{projects, Rule, System, Each, OneOf, Verdicts}
-use Rattle.goal_answers.specs.Answers.{Gives, GivesNone, alias_next, answers}
-use Rattle.goal_answers.specs.Proofs.{IsOne}
-use Rattle.goal_answers.proofs.Readings.{apply_hole, ReadsBy}
-use Rattle.goal_answers.proofs.One.{answers_sound}
-use Rattle.goal_search.proofs.Only.{each_of_get}
-use Rattle.goal_facts.specs.Arguments.{holes, type_at, args_at, goal_at}
-use Rattle.goal_facts.specs.Impls.{impl_rules}
-use Rattle.goal_facts.specs.ImplGoals.{ImplHasRule}
-use Rattle.goal_facts.specs.Systems.{fact, IsSystemOf}
-use Rattle.goal_facts.proofs.Adding.{get_in_map}
-use Rattle.goal_facts.proofs.Systems.{each_append}
-use Rattle.goal_select.proofs.Clauses.{IsClosedFact, clause_closed}
-use Rattle.goal_prove.specs.Written.{IsGood, AreGood, IsGoodGoal, AliasIsGood}
+use Rattle.goal_prove.specs.Words.{ImplId, TypeAliasId, GenericDefId, Hole, Term, hole, pair, occurs, RawGoal, RawFacts, arg_types, Fill, Aliases, Reads, projects, Rule, System, Each, OneOf, Verdicts, Gives, GivesNone, alias_next, answers, IsOne, holes, type_at, args_at, goal_at, impl_rules, ImplHasRule, fact, IsSystemOf}
+use Rattle.goal_prove.specs.Words.hir_raw.declared.raw.RawGoal.TheVariants as goal
+use Rattle.goal_prove.specs.Words.goal_answers.Reading.{Role}
+use Rattle.goal_prove.proofs.Words.{apply_hole, ReadsBy, answers_sound, each_of_get, get_in_map, each_append, IsClosedFact, clause_closed}
+use Rattle.goal_prove.specs.Own.{IsGood, AreGood, IsGoodGoal, AliasIsGood}
 use Rattle.goal_prove.proofs.TypeTerms.{args_role}
 use Rattle.goal_prove.proofs.Shapes.{are_args, staying_good, projection_good, type_good, args_good, holes_in, at_hole}
 use Rattle.goal_prove.proofs.Sources.{clause_gives, listed_gives, impl_gives}

@@ -3,26 +3,12 @@ use Rattle.std.specs.Prelude.{◌≡◌, ◌⊎◌, ◌+◌, ◌<◌, ◌++◌, 
 use Rattle.std.proofs.Common.{inl, inr, sym, ap, ◌∙◌, subst, get_or}
 use Rattle.std.proofs.lemmas.List.{map_more}
 use Rattle.std.proofs.lemmas.Option.{slice_get_read}
-use Rattle.hir_raw.specs.declared.raw.RawFacts.{RawFacts}
-use Rattle.goal_answers.specs.Reading.{Fill}
-use Rattle.hir_types.specs.Terms.{Term}
-use Rattle.goal_answers.specs.Goals.{Kind, Asked, Rule, System}
-use Rattle.goal_answers.specs.Answers.{IsItself, IsNeverItself}
-use Rattle.goal_answers.proofs.One.{itself_or}
-use Rattle.goal_search.specs.declared.answer.Answer.{Answer}
-use Rattle.goal_search.specs.declared.answer.Answer.TheVariants as answer
-use Rattle.goal_search.specs.Searching.{Decides}
-use Rattle.goal_facts.specs.declared.proof.Proof.{Proof}
-use Rattle.infer_table.proofs.BindingLaws.{get_left}
-use Rattle.goal_search.specs.declared.sources.Rule.{Rule as SearchRule}
-use Rattle.goal_search.specs.declared.sources.Asked.{Asked as SearchAsked}
-use Rattle.goal_search.specs.Sources.{asked_of, asked_list, rule_of, rules_of}
-use Rattle.goal_facts.proofs.Typed.{entry_is}
-use Rattle.infer_table.specs.Table.{IsFront}
-use Rattle.hir_types.specs.declared.goal.Goal.{Goal}
-use Rattle.goal_facts.specs.Goals.{asked_goal}
-use Rattle.goal_prove.specs.Entries.{IsProofAs, IsNamed}
-use Rattle.goal_prove.specs.Asking.{IsProofFor, AreProofsFor, ArePredsProved, IsPredProved}
+use Rattle.goal_prove.specs.Words.{RawFacts, Fill, Term, Kind, Asked, Rule, System, IsItself, IsNeverItself, Answer, Decides, Proof, asked_of, asked_list, rule_of, rules_of, IsFront, Goal, asked_goal}
+use Rattle.goal_prove.proofs.Words.{itself_or, get_left, entry_is}
+use Rattle.goal_prove.specs.Words.goal_search.declared.answer.Answer.TheVariants as answer
+use Rattle.goal_prove.specs.Words.goal_search.declared.sources.Rule.{Rule as SearchRule}
+use Rattle.goal_prove.specs.Words.goal_search.declared.sources.Asked.{Asked as SearchAsked}
+use Rattle.goal_prove.specs.Own.{IsProofAs, IsNamed, IsProofFor, AreProofsFor, ArePredsProved, IsPredProved}
 use Rattle.goal_prove.proofs.Adding.{adds_then}
 use Rattle.goal_prove.proofs.Children.{named_before, named_last, children_then}
 

@@ -1,24 +1,10 @@
 -- A predicate that is Yes below the depth, as a goal that is read.
 use Rattle.std.specs.Prelude.{◌≡◌, ◌⊎◌, ◌≤◌, ℕ, zero, suc, true, List}
 use Rattle.std.proofs.Common.{inl, inr, sym, ap, ◌∙◌, subst, arith}
-use Rattle.hir_types.specs.declared.goal.Goal.{Goal}
+use Rattle.goal_prove.specs.Words.{Goal, Term, apply, RawFacts, Fill, Aliases, Reads, ReadsAs, Kind, implements, projects, Asked, System, asked_at, is_among, YesAt, answers, IsDeep, known_below, IsDone, SystemHasHeads, Proof, asked_goal}
 use Rattle.hir_types.specs.declared.goal.Goal.TheVariants as goal
-use Rattle.hir_types.specs.Terms.{Term, apply}
-use Rattle.hir_raw.specs.declared.raw.RawFacts.{RawFacts}
-use Rattle.goal_answers.specs.Reading.{Fill, Aliases, Reads, ReadsAs}
-use Rattle.goal_answers.specs.Goals.{Kind, implements, projects, Asked, System, asked_at, is_among}
-use Rattle.goal_answers.specs.Answers.{YesAt, answers}
-use Rattle.goal_answers.specs.Selecting.{IsDeep}
-use Rattle.goal_answers.specs.Steps.{known_below}
-use Rattle.goal_answers.proofs.Readings.{read_reads, reads_one, reads_within}
-use Rattle.goal_answers.proofs.One.{answers_sound}
-use Rattle.goal_search.specs.Searching.{IsDone, SystemHasHeads}
-use Rattle.goal_search.proofs.Heads.{reading_done, reads_before}
-use Rattle.goal_facts.specs.declared.proof.Proof.{Proof}
-use Rattle.goal_facts.specs.Goals.{asked_goal}
-use Rattle.goal_select.proofs.Choices.{within}
-use Rattle.goal_prove.specs.Written.{IsGoodGoal}
-use Rattle.goal_prove.specs.Asking.{deep_alias, ReadsTo, IsAsked, PredIsAsked, IsProvedAs, IsPredProved}
+use Rattle.goal_prove.proofs.Words.{read_reads, reads_one, reads_within, answers_sound, reading_done, reads_before, within}
+use Rattle.goal_prove.specs.Own.{IsGoodGoal, deep_alias, ReadsTo, IsAsked, PredIsAsked, IsProvedAs, IsPredProved}
 use Rattle.goal_prove.proofs.Holes.{whole_stays}
 
 -- the goal of inference with these parts

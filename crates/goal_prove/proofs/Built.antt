@@ -3,42 +3,11 @@ use Rattle.std.specs.Prelude.{◌≡◌, ◌≤◌, ◌++◌, ℕ, true, List, [
 use Rattle.std.proofs.Common.{inl, inr, sym, ap, ap₂, ◌∙◌, subst}
 use Rattle.std.proofs.lemmas.Result.{IfOk-weaker}
 use Rattle.std.specs.declared.alloc.AllocError.{AllocError}
-use Rattle.hir_types.specs.declared.ids.ImplId.{ImplId}
-use Rattle.hir_types.specs.declared.ids.GenericDefId.{GenericDefId}
-use Rattle.hir_types.specs.declared.goal.Goal.{Goal}
-use Rattle.hir_types.specs.declared.head.Hole.{Hole}
-use Rattle.hir_types.specs.declared.ty.GenericArg.{GenericArg}
-use Rattle.hir_types.specs.Terms.{Term, hole, apply, occurs}
-use Rattle.hir_raw.specs.declared.raw.RawImpl.{RawImpl}
-use Rattle.hir_raw.specs.declared.raw.RawFacts.{RawFacts}
-use Rattle.infer_table.specs.TermLemmas.{apply_agree}
-use Rattle.goal_answers.specs.Reading.{Fill, IsFilling, Aliases, Reads, ReadsAs, stands}
-use Rattle.goal_answers.specs.Goals.{Kind, Asked, Rule, System, asked_at, key, only, is_among, Each, IsToldBy}
-use Rattle.goal_answers.specs.Answers.{IsItself, answers}
-use Rattle.goal_answers.specs.Selecting.{CopiesParts}
-use Rattle.goal_answers.specs.Steps.{known_below, Tells}
-use Rattle.goal_answers.proofs.Readings.{apply_hole, reads_may, reads_agree, reads_within}
-use Rattle.goal_answers.proofs.One.{answers_sound, head_tells}
-use Rattle.goal_terms.specs.Bindings.{log_of, fill_of}
-use Rattle.goal_terms.specs.Terms.{HasHeads}
-use Rattle.goal_search.specs.Searching.{IsDone, RuleHasHeads}
-use Rattle.goal_search.proofs.Heads.{may_done, reads_at}
-use Rattle.goal_search.proofs.Only.{each_of_get}
-use Rattle.goal_facts.specs.declared.proof.Proof.{Proof}
-use Rattle.goal_facts.specs.declared.proof.ProofSource.{ProofSource}
-use Rattle.goal_facts.specs.declared.proof.ProofSource.TheVariants as source
-use Rattle.goal_facts.specs.Goals.{asked_goal}
-use Rattle.goal_facts.specs.ImplGoals.{ComesFrom, ImplHasRule}
-use Rattle.goal_facts.specs.Proofs.{filled_goal, args_fill, IsUnshadowed, IsClause, IsImplAt, IsListedBound, IsBuiltIn, IsSource, IsProofOf, AreProofsOf, Holds}
-use Rattle.goal_facts.specs.Systems.{IsSystemOf}
-use Rattle.goal_facts.proofs.Adding.{get_within}
-use Rattle.goal_facts.proofs.Systems.{each_get}
-use Rattle.goal_select.proofs.Choices.{within}
-use Rattle.goal_select.proofs.Clauses.{clause_closed}
-use Rattle.goal_prove.specs.declared.fits.Found.{Found}
-use Rattle.goal_prove.specs.Written.{IsGood, IsGoodGoal}
-use Rattle.goal_prove.specs.Asking.{deep_alias, ReadsTo, IsAsked, IsFree, IsFit, IsProved, IsProofFor, AreProofsFor, ArePredsProved, PredIsAsked, fill_args}
-use Rattle.goal_prove.specs.Entries.{AddsProofs, IsProofAt, IsPushed, IsNamed, AddsChildrenBut}
+use Rattle.goal_prove.specs.Words.{ImplId, GenericDefId, Goal, Hole, GenericArg, Term, hole, apply, occurs, RawImpl, RawFacts, apply_agree, Fill, IsFilling, Aliases, Reads, ReadsAs, stands, Kind, Asked, Rule, System, asked_at, key, only, is_among, Each, IsToldBy, IsItself, answers, CopiesParts, known_below, log_of, fill_of, HasHeads, IsDone, RuleHasHeads, Proof, ProofSource, asked_goal, ComesFrom, ImplHasRule, filled_goal, args_fill, IsUnshadowed, IsClause, IsImplAt, IsListedBound, IsBuiltIn, IsSource, IsProofOf, AreProofsOf, Holds, IsSystemOf}
+use Rattle.goal_prove.specs.Words.goal_answers.Steps.{Tells}
+use Rattle.goal_prove.proofs.Words.{apply_hole, reads_may, reads_agree, reads_within, answers_sound, head_tells, may_done, reads_at, each_of_get, get_within, each_get, within, clause_closed}
+use Rattle.goal_prove.specs.Words.goal_facts.declared.proof.ProofSource.TheVariants as source
+use Rattle.goal_prove.specs.Own.{Found, IsGood, IsGoodGoal, deep_alias, ReadsTo, IsAsked, IsFree, IsFit, IsProved, IsProofFor, AreProofsFor, ArePredsProved, PredIsAsked, fill_args, AddsProofs, IsProofAt, IsPushed, IsNamed, AddsChildrenBut}
 use Rattle.goal_prove.proofs.Adding.{adds_none, adds_then, adds_one, found_last}
 use Rattle.goal_prove.proofs.Children.{children_none, children_last}
 use Rattle.goal_prove.proofs.Aliases.{aliases_good}

@@ -2,10 +2,9 @@
 use Rattle.std.specs.Prelude.{◌≡◌, ◌+◌, ℕ, List, [], ◌∷◌, ◌++◌, length, slice_get, Some}
 use Rattle.std.proofs.Common.{inl, inr, refl, sym, ap, ◌∙◌, subst, arith, length-append}
 use Rattle.std.proofs.lemmas.Bool.{cases_lt}
-use Rattle.infer_table.specs.Table.{IsFront}
-use Rattle.infer_table.proofs.BindingLaws.{get_left, get_last}
-use Rattle.goal_facts.specs.declared.proof.Proof.{Proof}
-use Rattle.goal_prove.specs.Entries.{IsNamed, IsChild, AddsChildrenBut, AddsOneRoot}
+use Rattle.goal_prove.specs.Words.{IsFront, Proof}
+use Rattle.goal_prove.proofs.Words.{get_left, get_last}
+use Rattle.goal_prove.specs.Own.{IsNamed, IsChild, AddsChildrenBut, AddsOneRoot}
 
 -- ---- numbers that are named
 

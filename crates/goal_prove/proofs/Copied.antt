@@ -2,38 +2,13 @@
 use Rattle.std.specs.Prelude.{◌≡◌, ◌⊎◌, ℕ, true, List, [], ◌∷◌, map, Option, Some, None, refl}
 use Rattle.std.proofs.Common.{inl, inr, sym, ap, ◌∙◌, subst}
 use Rattle.std.proofs.lemmas.Option.{same_Some}
-use Rattle.hir_types.specs.declared.head.Head.{Head}
+use Rattle.goal_prove.specs.Words.{Head, AliasBound, Const, GenericArg, TraitRef, Ty, Ty-F, out-Ty, in_ty, Term, hole, leaf, pair, const_term, type_part, term, arg_term, ty_step, terms, arg_term_type, arg_term_const, pair_left, pair_right, RawFacts, IsRead, Kind, implements, projects, Asked, System, self_type, only, is_among, Each, SomeOf, Proves, answers, with_part, types_of, EachType, Copied, with_parts, by_impls, unclear, copied_head, copied, CopyYes, CopiesParts, known_below, HasHeads, IsDone}
 use Rattle.hir_types.specs.declared.head.Head.TheVariants as head
-use Rattle.hir_types.specs.declared.ty.AliasBound.{AliasBound}
 use Rattle.hir_types.specs.declared.ty.Mutability.TheVariants as mutability
-use Rattle.hir_types.specs.declared.ty.Const.{Const}
 use Rattle.hir_types.specs.declared.ty.Const.TheVariants as const
-use Rattle.hir_types.specs.declared.ty.GenericArg.{GenericArg}
 use Rattle.hir_types.specs.declared.ty.GenericArg.TheVariants as arg
-use Rattle.hir_types.specs.declared.ty.TraitRef.{TraitRef}
-use Rattle.hir_types.specs.declared.ty.Ty.{Ty, Ty-F, out-Ty}
-use Rattle.hir_types.specs.Folds.{in_ty}
-use Rattle.hir_types.specs.Terms.{Term, hole, leaf, pair, const_term, type_part, term, arg_term, ty_step}
-use Rattle.hir_types.specs.TermLaws.{terms, arg_term_type, arg_term_const}
-use Rattle.infer_table.specs.TermLemmas.{pair_left, pair_right}
-use Rattle.hir_raw.specs.declared.raw.RawFacts.{RawFacts}
-use Rattle.goal_answers.specs.Reading.{IsRead}
-use Rattle.goal_answers.specs.Goals.{Kind, implements, projects, Asked, System, self_type, only, is_among, Each, SomeOf}
-use Rattle.goal_answers.specs.Answers.{Proves, answers}
-use Rattle.goal_answers.specs.Rows.{with_part, types_of, EachType, Copied, with_parts, by_impls, unclear, copied_head, copied, CopyYes}
-use Rattle.goal_answers.specs.Selecting.{CopiesParts}
-use Rattle.goal_answers.specs.Steps.{known_below}
-use Rattle.goal_answers.proofs.Lists.{some_each}
-use Rattle.goal_answers.proofs.Readings.{apply_hole}
-use Rattle.goal_answers.proofs.Filled.{CopyYesBy}
-use Rattle.goal_terms.specs.Terms.{HasHeads}
-use Rattle.goal_search.specs.Searching.{IsDone}
-use Rattle.goal_search.proofs.Heads.{reads_itself}
-use Rattle.goal_select.proofs.PartChoices.{parts_proved}
-use Rattle.goal_select.proofs.PartSteps.{type_is}
-use Rattle.goal_prove.specs.Written.{IsWhole, IsOfType, AreOfArgs, IsGood, AreGood, IsGoodGoal}
-use Rattle.goal_prove.specs.Asking.{IsAsked, FitsNot, PredIsAsked, IsSourced}
-use Rattle.goal_prove.specs.Parts.{CopiesAre}
+use Rattle.goal_prove.proofs.Words.{some_each, apply_hole, CopyYesBy, reads_itself, parts_proved, type_is}
+use Rattle.goal_prove.specs.Own.{IsWhole, IsOfType, AreOfArgs, IsGood, AreGood, IsGoodGoal, IsAsked, FitsNot, PredIsAsked, IsSourced, CopiesAre}
 use Rattle.goal_prove.proofs.TypeTerms.{AreArgs, tuple_args}
 use Rattle.goal_prove.proofs.Sources.{split_args}
 

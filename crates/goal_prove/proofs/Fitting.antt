@@ -1,27 +1,9 @@
 -- What the sources of a goal that is read tell of a goal that reads so.
 use Rattle.std.specs.Prelude.{◌≡◌, ◌⊎◌, ◌≤◌, ℕ, zero, suc, Bool, true, false, List, [], refl}
 use Rattle.std.proofs.Common.{inl, inr, sym, subst, arith}
-use Rattle.hir_types.specs.declared.ids.TraitId.{TraitId}
-use Rattle.hir_types.specs.declared.ids.GenericDefId.{GenericDefId}
-use Rattle.hir_types.specs.declared.goal.Goal.{Goal}
-use Rattle.hir_types.specs.Terms.{Term}
-use Rattle.hir_raw.specs.declared.raw.RawFacts.{RawFacts}
-use Rattle.goal_answers.specs.Reading.{Fill, IsFilling, Aliases, Reads, ReadsAs}
-use Rattle.goal_answers.specs.Goals.{Kind, implements, projects, Asked, Rule, System, asked_at, key, only, self_type, IsKnown, is_among, OneIf, Each, SomeOf, Verdicts}
-use Rattle.goal_answers.specs.Answers.{Proves, Shadows, ShadowsNot, IsItself, HasSource, YesAt, nothing, answers}
-use Rattle.goal_answers.specs.Rows.{SizedYes, CopyYes}
-use Rattle.goal_answers.specs.Selecting.{IsDeep}
-use Rattle.goal_answers.specs.Steps.{known_below}
-use Rattle.goal_answers.proofs.Lists.{each_map, each_with, some_each}
-use Rattle.goal_answers.proofs.Readings.{reads_within}
-use Rattle.goal_answers.proofs.Deeper.{IsWithin, yes_at_more}
-use Rattle.goal_answers.proofs.Levels.{level}
-use Rattle.goal_answers.proofs.One.{key_tells, not_refuted, answers_sound, answers_are_one}
-use Rattle.goal_facts.specs.Proofs.{filled_goal, IsUnshadowed, MayHaveSource}
-use Rattle.goal_facts.specs.Systems.{IsSystemOf}
-use Rattle.goal_select.proofs.Choices.{within}
-use Rattle.goal_select.proofs.Clauses.{IsClosedFact}
-use Rattle.goal_prove.specs.Asking.{deep_alias, ReadsTo, IsAsked, IsFree, FitsNot, IsSourced}
+use Rattle.goal_prove.specs.Words.{TraitId, GenericDefId, Goal, Term, RawFacts, Fill, IsFilling, Aliases, Reads, ReadsAs, Kind, implements, projects, Asked, Rule, System, asked_at, key, only, self_type, IsKnown, is_among, OneIf, Each, SomeOf, Verdicts, Proves, Shadows, ShadowsNot, IsItself, HasSource, YesAt, nothing, answers, SizedYes, CopyYes, IsDeep, known_below, filled_goal, IsUnshadowed, MayHaveSource, IsSystemOf}
+use Rattle.goal_prove.proofs.Words.{each_map, each_with, some_each, reads_within, IsWithin, yes_at_more, level, key_tells, not_refuted, answers_sound, answers_are_one, within, IsClosedFact}
+use Rattle.goal_prove.specs.Own.{deep_alias, ReadsTo, IsAsked, IsFree, FitsNot, IsSourced}
 use Rattle.goal_prove.proofs.Aliases.{clauses_closed}
 
 not_known : (f : System) (m : ℕ) → IsWithin (known_below f zero) (answers f m)

@@ -1,12 +1,10 @@
 -- Terms without holes.
 use Rattle.std.proofs.Common.{◌≡◌, inl, inr, true, refl, sym, ap, ap₂, ◌∙◌, subst, true≢false}
 use Rattle.std.proofs.lemmas.Bool.{or_cases}
-use Rattle.hir_types.specs.declared.head.Hole.{Hole}
-use Rattle.hir_types.specs.Terms.{Term, hole, leaf, pair, apply}
-use Rattle.infer_table.specs.TermLemmas.{hole_eq_true}
-use Rattle.goal_answers.specs.Reading.{Fill, Role, plain, alias, role, stands, MayRead}
-use Rattle.goal_answers.proofs.Readings.{MayReadBy, stands_by}
-use Rattle.goal_prove.specs.Written.{IsWhole, IsWritten}
+use Rattle.goal_prove.specs.Words.{Hole, Term, hole, leaf, pair, apply, hole_eq_true, Fill, plain, alias, role, stands, MayRead}
+use Rattle.goal_prove.specs.Words.goal_answers.Reading.{Role}
+use Rattle.goal_prove.proofs.Words.{MayReadBy, stands_by}
+use Rattle.goal_prove.specs.Own.{IsWhole, IsWritten}
 
 pub whole_stays : (s : Fill) (u : Term) → IsWhole u → apply s u ≡ u
 whole_stays s (hole k) w = absurd w

@@ -3,35 +3,14 @@ use Rattle.std.specs.Prelude.{◌≡◌, ◌⊎◌, ◌+◌, ◌<◌, ℕ, zero,
 use Rattle.std.proofs.Common.{inl, inr, sym, ap, ◌∙◌, subst, arith, true≢false}
 use Rattle.std.proofs.lemmas.Bool.{or_cases, or_left, or_right}
 use Rattle.std.proofs.lemmas.Option.{same_Some}
-use Rattle.hir_types.specs.declared.ids.TypeAliasId.{TypeAliasId}
-use Rattle.hir_types.specs.declared.ids.TypeRefId.{TypeRefId}
+use Rattle.goal_prove.specs.Words.{TypeAliasId, TypeRefId, Hole, Term, hole, leaf, pair, apply, occurs, term, RawTraitRef, RawAssocType, RawGoal, RawImpl, RawFacts, arg_types, Log, found, pair_left, Fill, plain, alias, role, stands, Aliases, Reads, projects, Asked, Rule, key, Each, IsOne, fill_of, holes, type_at, args_at, goal_at, trait_rule, assoc_rule, rules_for, impl_rules, arg_at, args_fill}
 use Rattle.hir_types.specs.declared.head.Head.TheVariants as head
-use Rattle.hir_types.specs.declared.head.Hole.{Hole}
 use Rattle.hir_types.specs.declared.head.Hole.TheVariants as hole_of
 use Rattle.hir_types.specs.declared.ty.GenericArg.TheVariants as arg
-use Rattle.hir_types.specs.Terms.{Term, hole, leaf, pair, apply, occurs, term}
-use Rattle.hir_raw.specs.declared.raw.RawTraitRef.{RawTraitRef}
-use Rattle.hir_raw.specs.declared.raw.RawAssocType.{RawAssocType}
-use Rattle.hir_raw.specs.declared.raw.RawGoal.{RawGoal}
-use Rattle.hir_raw.specs.declared.raw.RawImpl.{RawImpl}
-use Rattle.hir_raw.specs.declared.raw.RawFacts.{RawFacts}
-use Rattle.hir_raw.specs.Goals.{arg_types}
-use Rattle.infer_table.specs.Solutions.{Log, found}
-use Rattle.infer_table.specs.TermLemmas.{pair_left}
-use Rattle.goal_answers.specs.Reading.{Fill, Role, plain, alias, role, stands, Aliases, Reads}
-use Rattle.goal_answers.specs.Goals.{projects, Asked, Rule, key, Each}
-use Rattle.goal_answers.specs.Proofs.{IsOne}
-use Rattle.goal_answers.proofs.Readings.{ReadsBy, stands_by}
-use Rattle.goal_terms.specs.Bindings.{given, fill_of}
-use Rattle.goal_facts.specs.Arguments.{holes, type_at, args_at, goal_at}
-use Rattle.goal_facts.specs.Impls.{trait_rule, assoc_rule, rules_for, impl_rules}
-use Rattle.goal_facts.specs.Proofs.{arg_at, args_fill}
-use Rattle.goal_facts.proofs.Adding.{get_in_map}
-use Rattle.goal_facts.proofs.FreshGoals.{args_holes}
-use Rattle.goal_facts.proofs.Typed.{type_read_back}
-use Rattle.goal_select.proofs.Params.{counted_at, counted_length}
-use Rattle.goal_prove.specs.Written.{IsOfType, IsGood, AreGood, IsGoodGoal, AliasIsGood}
-use Rattle.goal_prove.specs.Asking.{type_or_unknown, fill_args}
+use Rattle.goal_prove.specs.Words.goal_answers.Reading.{Role}
+use Rattle.goal_prove.proofs.Words.{ReadsBy, stands_by, get_in_map, args_holes, type_read_back, counted_at, counted_length}
+use Rattle.goal_prove.specs.Words.goal_terms.Bindings.{given}
+use Rattle.goal_prove.specs.Own.{IsOfType, IsGood, AreGood, IsGoodGoal, AliasIsGood, type_or_unknown, fill_args}
 use Rattle.goal_prove.proofs.Holes.{whole_stays}
 use Rattle.goal_prove.proofs.TypeTerms.{no_leaf, args_role}
 use Rattle.goal_prove.proofs.Sources.{told_good}

@@ -14,3 +14,4 @@ pub mod Copied
 pub mod Below
 pub mod Whole
 pub mod Answering
+pub mod Words

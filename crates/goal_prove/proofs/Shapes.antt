@@ -3,32 +3,18 @@ use Rattle.std.specs.Prelude.{◌≡◌, ℕ, true, List, [], ◌∷◌, map, sl
 use Rattle.std.specs.List.{range_with_len}
 use Rattle.std.proofs.Common.{sym, ap, ap₂, ◌∙◌, subst}
 use Rattle.std.proofs.lemmas.Bool.{or_left, or_right}
-use Rattle.hir_types.specs.declared.ids.TypeAliasId.{TypeAliasId}
-use Rattle.hir_types.specs.declared.ids.TypeRefId.{TypeRefId}
-use Rattle.hir_types.specs.declared.head.Head.{Head}
+use Rattle.goal_prove.specs.Words.{TypeAliasId, TypeRefId, Head, Hole, GenericArg, Ty, arg_as_type, with_params, Term, hole, leaf, pair, node, chain, apply, occurs, type_part, term, parts_of_types, args_terms, term_bool, term_char, term_int, term_uint, term_tuple, term_adt_types, term_param, term_associated_type, term_error, term_hole, term_var, hole_eq_same, RawType, RawFacts, Fill, plain, role, staying, Aliases, Reads, projects, holes, own_params, type_at, args_at}
 use Rattle.hir_types.specs.declared.head.Head.TheVariants as head
-use Rattle.hir_types.specs.declared.head.Hole.{Hole}
 use Rattle.hir_types.specs.declared.head.Hole.TheVariants as hole_of
 use Rattle.hir_types.specs.declared.ty.IntegerTy.TheVariants.{Int, Uint}
-use Rattle.hir_types.specs.declared.ty.GenericArg.{GenericArg}
 use Rattle.hir_types.specs.declared.ty.GenericArg.TheVariants as arg
-use Rattle.hir_types.specs.declared.ty.Ty.{Ty}
 use Rattle.hir_types.specs.declared.ty.Ty.TheVariants as ty
-use Rattle.hir_types.specs.Assigned.{arg_as_type, type_of, with_params}
-use Rattle.hir_types.specs.Terms.{Term, hole, leaf, pair, node, chain, apply, occurs, type_part, term}
-use Rattle.hir_types.specs.TermLaws.{parts_of_types, args_terms, term_bool, term_char, term_int, term_uint, term_tuple, term_adt_types, term_param, term_associated_type, term_error, term_hole, term_var}
-use Rattle.infer_table.specs.TermLemmas.{hole_eq_same}
-use Rattle.hir_raw.specs.declared.raw.RawType.{RawType}
-use Rattle.hir_raw.specs.declared.raw.RawType.TheVariants as type
-use Rattle.hir_raw.specs.declared.raw.RawFacts.{RawFacts}
-use Rattle.goal_answers.specs.Reading.{Fill, Role, plain, role, staying, Aliases, Reads}
-use Rattle.goal_answers.specs.Goals.{projects}
-use Rattle.goal_answers.proofs.Readings.{apply_hole, ReadsBy}
-use Rattle.goal_facts.specs.Arguments.{holes, own_params, type_at, args_at}
-use Rattle.goal_facts.proofs.Adding.{get_in_map}
-use Rattle.goal_prove.specs.Written.{IsWhole, IsGood, AreGood, IsGoodGoal, AliasIsGood}
+use Rattle.hir_types.specs.Assigned.{type_of}
+use Rattle.goal_prove.specs.Words.hir_raw.declared.raw.RawType.TheVariants as type
+use Rattle.goal_prove.specs.Words.goal_answers.Reading.{Role}
+use Rattle.goal_prove.proofs.Words.{apply_hole, ReadsBy, get_in_map, parts_by, layer, by_layers, args_are}
+use Rattle.goal_prove.specs.Own.{IsWhole, IsGood, AreGood, IsGoodGoal, AliasIsGood}
 use Rattle.goal_prove.proofs.TypeTerms.{top_type, hole_at}
-use Rattle.goal_facts.proofs.Written.{parts_by, layer, by_layers, args_are}
 
 -- arguments that are all types
 pub record AreTypes (w : Term) : Type 0 where

@@ -4,48 +4,18 @@ use Rattle.std.specs.List.{range_with_len}
 use Rattle.std.proofs.Common.{inl, inr, sym, ap, ap₂, ◌∙◌, subst, arith}
 use Rattle.std.proofs.lemmas.Bool.{or_left, or_right}
 use Rattle.std.proofs.lemmas.Option.{same_Some}
-use Rattle.hir_types.specs.declared.ids.ImplId.{ImplId}
-use Rattle.hir_types.specs.declared.ids.TypeAliasId.{TypeAliasId}
-use Rattle.hir_types.specs.declared.ids.TypeRefId.{TypeRefId}
-use Rattle.hir_types.specs.declared.ids.GenericDefId.{GenericDefId}
+use Rattle.goal_prove.specs.Words.{ImplId, TypeAliasId, TypeRefId, GenericDefId, Hole, GenericArg, with_params, Term, hole, leaf, pair, node, chain, apply, occurs, hole_number, type_part, term, arg_term, arg_term_type, term_error, term_var, hole_eq_same, pair_left, pair_right, RawGoal, RawTraitRef, RawAssocType, RawImpl, RawFacts, arg_types, count_or_none, params_in_trait, generic_params, Fill, staying, Aliases, Reads, stands, Kind, implements, projects, Asked, Rule, asked_at, args_of, type_of, key, self_type, IsOne, IsNth, holes, own_params, type_at, args_at, goal_at, own_clause, IsStated, trait_holes, IsSuper, BoundSays, IsListed, trait_rule, assoc_rule, rules_for, HasHolesBelow, ImplHasRule, fact, ClausesAre}
 use Rattle.hir_types.specs.declared.head.Head.TheVariants as head
-use Rattle.hir_types.specs.declared.head.Hole.{Hole}
 use Rattle.hir_types.specs.declared.head.Hole.TheVariants as hole_of
-use Rattle.hir_types.specs.declared.ty.GenericArg.{GenericArg}
 use Rattle.hir_types.specs.declared.ty.GenericArg.TheVariants as arg
 use Rattle.hir_types.specs.declared.ty.Ty.TheVariants as ty
-use Rattle.hir_types.specs.Assigned.{with_params}
-use Rattle.hir_types.specs.Terms.{Term, hole, leaf, pair, node, chain, apply, occurs, hole_number, type_part, term, arg_term}
-use Rattle.hir_types.specs.TermLaws.{arg_term_type, term_error, term_var}
-use Rattle.infer_table.specs.TermLemmas.{hole_eq_same, pair_left, pair_right}
-use Rattle.hir_raw.specs.declared.raw.RawGoal.{RawGoal}
-use Rattle.hir_raw.specs.declared.raw.RawGoal.TheVariants as goal
-use Rattle.hir_raw.specs.declared.raw.RawTraitRef.{RawTraitRef}
-use Rattle.hir_raw.specs.declared.raw.RawAssocType.{RawAssocType}
-use Rattle.hir_raw.specs.declared.raw.RawImpl.{RawImpl}
-use Rattle.hir_raw.specs.declared.raw.RawFacts.{RawFacts}
-use Rattle.hir_raw.specs.Goals.{arg_types}
-use Rattle.hir_raw.specs.Scope.{count_or_none, params_in_trait, generic_params}
-use Rattle.goal_answers.specs.Reading.{Fill, staying, Aliases, Reads, stands}
-use Rattle.goal_answers.specs.Goals.{Kind, implements, projects, Asked, Rule, asked_at, args_of, type_of, key, self_type, IsTold}
-use Rattle.goal_answers.specs.Proofs.{IsOne}
-use Rattle.goal_answers.specs.Rows.{IsNth}
-use Rattle.goal_answers.proofs.Readings.{apply_hole, reads_one, reads_may, reads_agree}
-use Rattle.goal_answers.proofs.One.{occurs_type}
-use Rattle.goal_facts.specs.Arguments.{holes, own_params, type_at, args_at, goal_at}
-use Rattle.goal_facts.specs.Environment.{own_clause, IsStated, trait_holes, IsSuper, Follows}
-use Rattle.goal_facts.specs.Bounds.{BoundSays, IsListed}
-use Rattle.goal_facts.specs.Impls.{trait_rule, assoc_rule, rules_for}
-use Rattle.goal_facts.specs.ImplGoals.{HasHolesBelow, ImplHasRule}
-use Rattle.goal_facts.specs.Systems.{fact, ClausesAre}
-use Rattle.goal_facts.proofs.Adding.{get_in_map}
-use Rattle.goal_facts.proofs.FreshGoals.{args_holes, goal_holes}
-use Rattle.goal_select.proofs.Clauses.{clause_closed}
-use Rattle.goal_select.proofs.Params.{counted_at}
-use Rattle.goal_prove.specs.Written.{IsOfType, AreOfArgs, IsGood, AreGood, AliasIsGood}
+use Rattle.goal_prove.specs.Words.hir_raw.declared.raw.RawGoal.TheVariants as goal
+use Rattle.goal_prove.specs.Words.goal_answers.Goals.{IsTold}
+use Rattle.goal_prove.proofs.Words.{apply_hole, reads_one, reads_may, reads_agree, occurs_type, get_in_map, args_holes, goal_holes, clause_closed, counted_at, args_are}
+use Rattle.goal_prove.specs.Words.goal_facts.Environment.{Follows}
+use Rattle.goal_prove.specs.Own.{IsOfType, AreOfArgs, IsGood, AreGood, AliasIsGood}
 use Rattle.goal_prove.proofs.Holes.{may_whole}
 use Rattle.goal_prove.proofs.TypeTerms.{arg_type, associated_args}
-use Rattle.goal_facts.proofs.Written.{args_are}
 use Rattle.goal_prove.proofs.Told.{args_tell}
 use Rattle.goal_prove.proofs.Shapes.{IsGoodIn, IsGoodAt, staying_good, type_good, holes_in, own_in, param_good, at_hole}
 

@@ -2,28 +2,17 @@
 use Rattle.std.specs.Prelude.{◌≡◌, ◌⊎◌, ℕ, true, List, [], ◌∷◌, map, slice_get, Option, Some, None, refl}
 use Rattle.std.proofs.Common.{inl, inr, sym, ap, ◌∙◌, subst, true≢false}
 use Rattle.std.proofs.lemmas.Bool.{or_cases}
-use Rattle.hir_types.specs.declared.ids.TypeRefId.{TypeRefId}
-use Rattle.hir_types.specs.declared.head.Head.{Head}
+use Rattle.goal_prove.specs.Words.{TypeRefId, Head, Hole, GenericArg, arg_as_type, with_params, Term, hole, leaf, pair, node, chain, type_part, term, term_error, term_var, hole_eq_true, pair_left, pair_right, RawType, RawFacts, Fill, plain, role, MayRead, stands, holes, type_at, args_at}
 use Rattle.hir_types.specs.declared.head.Head.TheVariants as head
-use Rattle.hir_types.specs.declared.head.Hole.{Hole}
 use Rattle.hir_types.specs.declared.head.Hole.TheVariants as hole_of
 use Rattle.hir_types.specs.declared.ty.IntegerTy.TheVariants.{Int, Uint}
-use Rattle.hir_types.specs.declared.ty.GenericArg.{GenericArg}
 use Rattle.hir_types.specs.declared.ty.GenericArg.TheVariants as arg
 use Rattle.hir_types.specs.declared.ty.Ty.TheVariants as ty
-use Rattle.hir_types.specs.Assigned.{arg_as_type, type_of, with_params}
-use Rattle.hir_types.specs.Terms.{Term, hole, leaf, pair, node, chain, type_part, term}
-use Rattle.hir_types.specs.TermLaws.{term_error, term_var}
-use Rattle.infer_table.specs.TermLemmas.{hole_eq_true, pair_left, pair_right}
-use Rattle.hir_raw.specs.declared.raw.RawType.{RawType}
-use Rattle.hir_raw.specs.declared.raw.RawType.TheVariants as type
-use Rattle.hir_raw.specs.declared.raw.RawFacts.{RawFacts}
-use Rattle.goal_answers.specs.Reading.{Fill, plain, role, MayRead, stands}
-use Rattle.goal_answers.proofs.Readings.{stands_by}
-use Rattle.goal_facts.specs.Arguments.{holes, type_at, args_at}
-use Rattle.goal_prove.specs.Written.{IsOfType, AreOfArgs}
+use Rattle.hir_types.specs.Assigned.{type_of}
+use Rattle.goal_prove.specs.Words.hir_raw.declared.raw.RawType.TheVariants as type
+use Rattle.goal_prove.proofs.Words.{stands_by, parts_by, layer, by_layers, args_are}
+use Rattle.goal_prove.specs.Own.{IsOfType, AreOfArgs}
 use Rattle.goal_prove.proofs.TypeTerms.{tuple_args, adt_args, arg_type, top_type, hole_at}
-use Rattle.goal_facts.proofs.Written.{parts_by, layer, by_layers, args_are}
 
 module _ (raw : RawFacts) (n : ℕ) (p : Fill) where
   abbrev Tells : Term → Type 0

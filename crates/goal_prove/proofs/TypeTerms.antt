@@ -2,27 +2,11 @@
 use Rattle.std.specs.Prelude.{◌≡◌, ℕ, List, [], ◌∷◌, map, slice_get, Some, refl}
 use Rattle.std.specs.List.{range_with_len}
 use Rattle.std.proofs.Common.{sym, ap, ◌∙◌}
-use Rattle.hir_types.specs.declared.ids.AdtId.{AdtId}
-use Rattle.hir_types.specs.declared.ids.TypeAliasId.{TypeAliasId}
-use Rattle.hir_types.specs.declared.ids.TypeRefId.{TypeRefId}
-use Rattle.hir_types.specs.declared.head.Head.{Head}
+use Rattle.goal_prove.specs.Words.{AdtId, TypeAliasId, TypeRefId, Head, AliasBound, GenericArg, GenericArg-F, out-GenericArg, out-roll-GenericArg, TraitRef, Ty, Ty-F, out-Ty, in_ty, map_twice, Term, leaf, pair, chain, type_part, ty_step, term, arg_term, terms, arg_term_type, arg_term_const, args_terms, RawFacts, pair_right, plain, role, holes, args_at}
 use Rattle.hir_types.specs.declared.head.Head.TheVariants as head
-use Rattle.hir_types.specs.declared.ty.AliasBound.{AliasBound}
-use Rattle.hir_types.specs.declared.ty.GenericArg.{GenericArg, GenericArg-F, out-GenericArg, out-roll-GenericArg}
 use Rattle.hir_types.specs.declared.ty.GenericArg.TheVariants as arg
-use Rattle.hir_types.specs.declared.ty.TraitRef.{TraitRef}
-use Rattle.hir_types.specs.declared.ty.Ty.{Ty, Ty-F, out-Ty}
 use Rattle.hir_types.specs.declared.ty.Ty.TheVariants as ty
-use Rattle.hir_types.specs.Folds.{in_ty, map_twice}
-use Rattle.hir_types.specs.Terms.{Term, leaf, pair, chain, type_part, ty_step, term, arg_term}
-use Rattle.hir_types.specs.TermLaws.{terms, arg_term_type, arg_term_const, args_terms}
-use Rattle.hir_raw.specs.declared.raw.RawFacts.{RawFacts}
-use Rattle.infer_table.specs.TermLemmas.{pair_right}
-use Rattle.goal_answers.specs.Reading.{plain, role}
-use Rattle.goal_facts.specs.Arguments.{holes, args_at}
-use Rattle.goal_facts.proofs.Adding.{get_in_map}
-use Rattle.goal_facts.proofs.Typed.{IsTypeTerm}
-use Rattle.goal_select.proofs.PartSteps.{type_is}
+use Rattle.goal_prove.proofs.Words.{get_in_map, IsTypeTerm, type_is}
 
 -- ---- types
 

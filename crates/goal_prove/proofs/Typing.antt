@@ -2,28 +2,14 @@
 use Rattle.std.specs.Prelude.{◌≡◌, List, [], ◌∷◌, ◌++◌, map, Some, None, refl}
 use Rattle.std.specs.List.{flat_map}
 use Rattle.std.proofs.Common.{sym, ap, ap₂, ◌∙◌, subst}
-use Rattle.hir_types.specs.declared.ids.TraitId.{TraitId}
-use Rattle.hir_types.specs.declared.goal.Goal.{Goal}
+use Rattle.goal_prove.specs.Words.{TraitId, Goal, Head, AliasBound, Const, GenericArg, GenericArg-F, map-GenericArg, ind-GenericArg, roll-GenericArg, out-GenericArg, roll-out-GenericArg, TraitRef, out-TraitRef, Ty, Ty-F, map-Ty, ind-Ty, roll-Ty, in_ty, in_arg, no_label, Term, hole, leaf, pair, node, chain, const_term, type_part, const_part, term, arg_term, trait_parts, bound_parts, auto_parts, arg_step, ty_step, terms, term_at, parts_of_types, arg_term_type, arg_term_const, term_bool, term_char, term_int, term_uint, term_float, term_str, term_never, term_tuple, term_array, term_slice, term_ref, term_raw_ptr, term_adt, term_fn_def, term_fn_ptr, term_closure, term_dynamic, trait_parts_is, bound_parts_is, term_param, term_associated_type, term_opaque, term_error, term_hole, arg_term_at, Aliases, plain, role, ReadsAs, projects, asked_goal}
 use Rattle.hir_types.specs.declared.goal.Goal.TheVariants as goal
-use Rattle.hir_types.specs.declared.head.Head.{Head}
 use Rattle.hir_types.specs.declared.head.Head.TheVariants as head
-use Rattle.hir_types.specs.declared.ty.AliasBound.{AliasBound}
-use Rattle.hir_types.specs.declared.ty.Const.{Const}
 use Rattle.hir_types.specs.declared.ty.Const.TheVariants as const
-use Rattle.hir_types.specs.declared.ty.GenericArg.{GenericArg, GenericArg-F, map-GenericArg, ind-GenericArg, roll-GenericArg, out-GenericArg, roll-out-GenericArg}
 use Rattle.hir_types.specs.declared.ty.GenericArg.TheVariants as arg
-use Rattle.hir_types.specs.declared.ty.TraitRef.{TraitRef, out-TraitRef}
-use Rattle.hir_types.specs.declared.ty.Ty.{Ty, Ty-F, map-Ty, ind-Ty, roll-Ty}
 use Rattle.hir_types.specs.declared.ty.Ty.TheVariants as ty
-use Rattle.hir_types.specs.Folds.{in_ty, in_arg}
-use Rattle.hir_types.specs.Erasure.{no_label}
-use Rattle.hir_types.specs.Terms.{Term, hole, leaf, pair, node, chain, const_term, type_part, const_part, term, arg_term, trait_parts, bound_parts, auto_parts, arg_step, ty_step}
-use Rattle.hir_types.specs.TermLaws.{terms, term_at, parts_of_types, arg_term_type, arg_term_const, term_bool, term_char, term_int, term_uint, term_float, term_str, term_never, term_tuple, term_array, term_slice, term_ref, term_raw_ptr, term_adt, term_fn_def, term_fn_ptr, term_closure, term_dynamic, trait_parts_is, bound_parts_is, term_param, term_associated_type, term_opaque, term_error, term_hole, arg_term_at}
-use Rattle.goal_answers.specs.Reading.{Aliases, plain, role, ReadsAs}
-use Rattle.goal_answers.specs.Goals.{projects}
-use Rattle.goal_answers.proofs.Readings.{ReadsBy}
-use Rattle.goal_facts.specs.Goals.{asked_goal}
-use Rattle.goal_prove.specs.Written.{IsWhole, IsGood, AreGood, IsGoodGoal, AliasIsGood, IsWritten}
+use Rattle.goal_prove.proofs.Words.{ReadsBy}
+use Rattle.goal_prove.specs.Own.{IsWhole, IsGood, AreGood, IsGoodGoal, AliasIsGood, IsWritten}
 use Rattle.goal_prove.proofs.Holes.{written_whole}
 use Rattle.goal_prove.proofs.Shapes.{AreTypes, no_args, one_more, projection_good}
 

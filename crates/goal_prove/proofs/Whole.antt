@@ -1,30 +1,11 @@
 -- A goal without holes whose answer is Yes, as it is read.
 use Rattle.std.specs.Prelude.{◌≡◌, ◌⊎◌, ◌+◌, ◌≤◌, ℕ, suc, refl}
 use Rattle.std.proofs.Common.{inl, inr, sym, ◌∙◌, subst, arith}
-use Rattle.hir_types.specs.declared.ids.GenericDefId.{GenericDefId}
-use Rattle.hir_types.specs.declared.goal.Goal.{Goal}
-use Rattle.hir_types.specs.Terms.{Term, hole}
-use Rattle.hir_raw.specs.declared.raw.RawFacts.{RawFacts}
-use Rattle.goal_answers.specs.Reading.{ReadsAs}
-use Rattle.goal_answers.specs.Goals.{Asked, System, asked_at}
-use Rattle.goal_answers.specs.Answers.{YesAt, answers}
-use Rattle.goal_answers.specs.Steps.{known_below}
-use Rattle.goal_answers.proofs.Readings.{reads_one, reads_within}
-use Rattle.goal_answers.proofs.One.{answers_sound, answers_are_one}
-use Rattle.goal_terms.specs.Terms.{HasHeads}
-use Rattle.goal_search.specs.declared.answer.Answer.{Answer}
-use Rattle.goal_search.specs.declared.answer.Answer.TheVariants as answer
-use Rattle.goal_search.specs.declared.sources.Sources.{Sources}
-use Rattle.goal_search.specs.declared.sources.Asked.{Asked as SearchAsked}
-use Rattle.goal_search.specs.Sources.{asked_of, system}
-use Rattle.goal_search.specs.Searching.{SystemHasHeads, Decides}
-use Rattle.goal_search.proofs.Heads.{reading_done}
-use Rattle.goal_facts.specs.Goals.{asked_goal}
-use Rattle.goal_facts.specs.Systems.{IsSystemOf}
-use Rattle.goal_facts.proofs.Systems.{asked_itself}
-use Rattle.goal_select.proofs.Choices.{within}
-use Rattle.goal_prove.specs.Written.{IsWritten}
-use Rattle.goal_prove.specs.Asking.{deep_alias, ReadsTo, IsAsked}
+use Rattle.goal_prove.specs.Words.{GenericDefId, Goal, Term, hole, RawFacts, ReadsAs, Asked, System, asked_at, YesAt, answers, known_below, HasHeads, Answer, Sources, asked_of, system, SystemHasHeads, Decides, asked_goal, IsSystemOf}
+use Rattle.goal_prove.proofs.Words.{reads_one, reads_within, answers_sound, answers_are_one, reading_done, asked_itself, within}
+use Rattle.goal_prove.specs.Words.goal_search.declared.answer.Answer.TheVariants as answer
+use Rattle.goal_prove.specs.Words.goal_search.declared.sources.Asked.{Asked as SearchAsked}
+use Rattle.goal_prove.specs.Own.{IsWritten, deep_alias, ReadsTo, IsAsked}
 use Rattle.goal_prove.proofs.Holes.{whole_stays, written_whole}
 use Rattle.goal_prove.proofs.Aliases.{aliases_good}
 use Rattle.goal_prove.proofs.Below.{yes_as}

@@ -1,27 +1,10 @@
 -- What a step to a proof is asked, of goals that are read, and what it finds.
 use Rattle.std.specs.Prelude.{◌≡◌, ◌⊎◌, ℕ, suc, true, false, List, [], ◌∷◌, map, slice_get, Option, Some, None}
 use Rattle.std.specs.List.{range_with_len}
-use Rattle.hir_types.specs.declared.goal.Goal.{Goal}
+use Rattle.goal_prove.specs.Words.{Goal, GenericArg, Ty, type_of_term, Term, apply, RawFacts, Log, found, Fill, IsFilling, Aliases, Reads, ReadsAs, Kind, Asked, Rule, System, is_among, Each, SomeOf, Verdicts, Shadows, Proves, YesAt, answers, CopyYes, IsDeep, known_below, HoldsAt, log_of, fill_of, IsDone, PredIsDone, Proof, asked_goal, filled_goal}
 use Rattle.hir_types.specs.declared.head.Hole.TheVariants as hole_of
-use Rattle.hir_types.specs.declared.ty.GenericArg.{GenericArg}
 use Rattle.hir_types.specs.declared.ty.GenericArg.TheVariants as arg
-use Rattle.hir_types.specs.declared.ty.Ty.{Ty}
 use Rattle.hir_types.specs.declared.ty.Ty.TheVariants as ty
-use Rattle.hir_types.specs.Faithful.{type_of_term}
-use Rattle.hir_types.specs.Terms.{Term, apply}
-use Rattle.hir_raw.specs.declared.raw.RawFacts.{RawFacts}
-use Rattle.infer_table.specs.Solutions.{Log, found}
-use Rattle.goal_answers.specs.Reading.{Fill, IsFilling, Aliases, Reads, ReadsAs}
-use Rattle.goal_answers.specs.Goals.{Kind, Asked, Rule, System, is_among, Each, SomeOf, Verdicts}
-use Rattle.goal_answers.specs.Answers.{Shadows, Proves, YesAt, answers}
-use Rattle.goal_answers.specs.Rows.{CopyYes}
-use Rattle.goal_answers.specs.Selecting.{IsDeep}
-use Rattle.goal_answers.specs.Steps.{known_below, HoldsAt}
-use Rattle.goal_terms.specs.Bindings.{log_of, fill_of}
-use Rattle.goal_search.specs.Searching.{IsDone, PredIsDone}
-use Rattle.goal_facts.specs.declared.proof.Proof.{Proof}
-use Rattle.goal_facts.specs.Goals.{asked_goal}
-use Rattle.goal_facts.specs.Proofs.{filled_goal}
 use Rattle.goal_prove.specs.declared.fits.Found.{Found}
 use Rattle.goal_prove.specs.Entries.{AddsProofs, IsProofAt, IsProofAs, IsNamed, AddsChildrenBut, AddsOneRoot}
 use Rattle.goal_prove.specs.Written.{IsGoodGoal}

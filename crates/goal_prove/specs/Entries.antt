@@ -1,14 +1,6 @@
 -- Proofs that are listed, and added behind others.
 use Rattle.std.specs.Prelude.{◌≡◌, ◌⊎◌, ◌<◌, ◌≤◌, ◌++◌, ℕ, List, [], ◌∷◌, length, slice_get, Option, Some, None}
-use Rattle.hir_types.specs.declared.goal.Goal.{Goal}
-use Rattle.hir_raw.specs.declared.raw.RawFacts.{RawFacts}
-use Rattle.infer_table.specs.Table.{IsFront}
-use Rattle.goal_answers.specs.Reading.{Fill, IsFilling}
-use Rattle.goal_answers.specs.Goals.{System}
-use Rattle.goal_answers.specs.Answers.{answers}
-use Rattle.goal_facts.specs.declared.proof.Proof.{Proof}
-use Rattle.goal_facts.specs.Goals.{asked_goal}
-use Rattle.goal_facts.specs.Proofs.{AreProofs}
+use Rattle.goal_prove.specs.Words.{Goal, RawFacts, IsFront, Fill, IsFilling, System, answers, Proof, asked_goal, AreProofs}
 
 -- ---- one proof
 

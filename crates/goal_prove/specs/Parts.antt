@@ -1,8 +1,6 @@
 -- What is copied since its parts are.
 use Rattle.std.specs.Prelude.{◌≡◌, List, map, Option, Some, None}
-use Rattle.hir_types.specs.Terms.{Term}
-use Rattle.goal_answers.specs.Goals.{Kind, Asked, System, only}
-use Rattle.goal_answers.specs.Selecting.{CopiesParts}
+use Rattle.goal_prove.specs.Words.{Term, Kind, Asked, System, only, CopiesParts}
 
 -- the goals of the parts; or it is no matter of parts
 abbrev pub CopiesAre : System → Kind → Term → Option (List Asked) → Type 0

@@ -1,13 +1,7 @@
 -- Terms that are read, as those of types without holes; and the goals that can be proved.
 use Rattle.std.specs.Prelude.{◌≡◌, List, map}
-use Rattle.hir_types.specs.declared.ids.TypeAliasId.{TypeAliasId}
-use Rattle.hir_types.specs.declared.head.Head.{Head}
+use Rattle.goal_prove.specs.Words.{TypeAliasId, Head, GenericArg, Ty, Term, hole, leaf, pair, chain, term, arg_term, Aliases, Kind, implements, projects}
 use Rattle.hir_types.specs.declared.head.Head.TheVariants as head
-use Rattle.hir_types.specs.declared.ty.GenericArg.{GenericArg}
-use Rattle.hir_types.specs.declared.ty.Ty.{Ty}
-use Rattle.hir_types.specs.Terms.{Term, hole, leaf, pair, chain, term, arg_term}
-use Rattle.goal_answers.specs.Reading.{Aliases}
-use Rattle.goal_answers.specs.Goals.{Kind, implements, projects}
 
 -- no hole is in the term
 abbrev pub IsWhole : Term → Type 0

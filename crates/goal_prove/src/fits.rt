@@ -1,16 +1,11 @@
 //! Rules that hold of a goal that is read.
 ghost use Rattle.std.specs.Prelude.{◌≡◌, IfOk};
-ghost use Rattle.goal_answers.specs.Goals.{Each};
-ghost use Rattle.goal_answers.specs.Answers.{answers};
-ghost use Rattle.goal_answers.specs.Steps.{known_below};
-ghost use Rattle.goal_terms.specs.Terms.{term_of};
-ghost use Rattle.goal_search.specs.Sources.{kind_of, rules_of, system};
-ghost use Rattle.goal_search.specs.Searching.{IsDone, RuleHasHeads};
-ghost use Rattle.goal_prove.specs.Asking.{FitIs};
+ghost use Rattle.goal_prove.specs.Words.{Each, answers, known_below, term_of, kind_of, rules_of, system, IsDone, RuleHasHeads};
+ghost use Rattle.goal_prove.specs.Own.{FitIs};
 
 use crate::lower::fits;
-use goal_search::{Kind, Rule, Search, is_same_kind};
-use goal_terms::{Binding, Term};
+use goal_select::goal_search::{Kind, Rule, Search, is_same_kind};
+use goal_select::goal_terms::{Binding, Term};
 use std::alloc::AllocError;
 
 /// A rule that holds, by its place, and what stands for its holes.

@@ -1,25 +1,16 @@
 //! The proof of a goal whose answer is Yes, by what the answer was found by.
 ghost use Rattle.std.specs.Prelude.{◌≡◌, ◌+◌, ◌≤◌, slice_get, Some, IfOk, OnOk};
-ghost use Rattle.goal_answers.specs.Goals.{Each, Rule};
-ghost use Rattle.goal_answers.specs.Answers.{answers};
-ghost use Rattle.goal_answers.specs.Steps.{known_below};
-ghost use Rattle.goal_terms.specs.Terms.{term_of, HasHeads};
-ghost use Rattle.goal_search.specs.Holes.{holes_fill};
-ghost use Rattle.goal_search.specs.Sources.{kind_of, asked_of, asked_list, system};
-ghost use Rattle.goal_facts.specs.Goals.{asked_goal};
-ghost use Rattle.goal_facts.specs.ImplGoals.{ComesFrom};
-ghost use Rattle.goal_prove.specs.Entries.{AddsProofs, AddsOneRoot, KeepsIfNone, IsProvedIf};
-ghost use Rattle.goal_prove.specs.Written.{IsWritten};
-ghost use Rattle.goal_prove.specs.Asking.{deep_alias, ReadsTo, IsAsked, IsFit, FitsNot, PredIsAsked, IsProved, IsProvedAs, IsSourced, IsPredProved, ArePredsProved};
+ghost use Rattle.goal_prove.specs.Words.{Each, Rule, answers, known_below, term_of, HasHeads, holes_fill, kind_of, asked_of, asked_list, system, asked_goal, ComesFrom};
+ghost use Rattle.goal_prove.specs.Own.{AddsProofs, AddsOneRoot, KeepsIfNone, IsProvedIf, IsWritten, deep_alias, ReadsTo, IsAsked, IsFit, FitsNot, PredIsAsked, IsProved, IsProvedAs, IsSourced, IsPredProved, ArePredsProved};
 
 use crate::fits::{Found, find_fit};
 use crate::listed::{proof_since, push_proof};
 use crate::lower::{copied_goals, goal_of, is_itself, search_of, sources_of};
 use crate::types::fill_args;
-use goal_facts::{Answer, ItemSources, Proof, ProofSource, asked};
-use goal_search::{Asked, Holes, Kind, MOST_LEVELS, Search, is_among};
-use goal_terms::Term;
-use hir_facts::{Goal, ImplId, List};
+use goal_select::goal_facts::{Answer, ItemSources, Proof, ProofSource, asked};
+use goal_select::goal_search::{Asked, Holes, Kind, MOST_LEVELS, Search, is_among};
+use goal_select::goal_terms::Term;
+use goal_select::hir_facts::{Goal, ImplId, List};
 use std::alloc::{AllocError, Global};
 
 /// Adds a proof of a goal that reads as the target, behind those of what its source asks for; gives its

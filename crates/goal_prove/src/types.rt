@@ -1,12 +1,11 @@
 //! What stands for the parameters of an impl, as types.
 ghost use Rattle.std.specs.Prelude.{◌≡◌, IfOk};
-ghost use Rattle.goal_terms.specs.Bindings.{log_of};
-ghost use Rattle.infer_table.specs.Solutions.{found};
+ghost use Rattle.goal_prove.specs.Words.{log_of, found};
 ghost use Rattle.hir_types.specs.declared.head.Hole.TheVariants as hole_of;
-ghost use Rattle.goal_prove.specs.Asking.{type_or_unknown, fill_args};
+ghost use Rattle.goal_prove.specs.Own.{type_or_unknown, fill_args};
 
-use goal_terms::{Binding, find, term_type};
-use hir_facts::{GenericArg, List, Ty};
+use goal_select::goal_terms::{Binding, find, term_type};
+use goal_select::hir_facts::{GenericArg, List, Ty};
 use hir_types::Hole;
 use std::alloc::{AllocError, Global};
 

@@ -1,33 +1,16 @@
 -- Which source a goal is selected by.
 use Rattle.std.proofs.Common.{◌≡◌, ◌⊎◌, inl, inr, ℕ, suc, ◌+◌, arith, Bool, true, false, refl, sym, ap, subst, List, Option, Some, None}
 use Rattle.std.specs.Option.{option_map}
-use Rattle.hir_types.specs.declared.head.Head.{Head}
+use Rattle.goal_search.specs.Words.{Head, Term, hole, leaf, pair, Aliases, Reads, role, IsReadLeaf, IsRead, Kind, implements, projects, Asked, Rule, System, asked_at, key, self_type, is_among, OneIf, Each, SomeOf, Verdicts, Copied, with_parts, by_impls, unclear, copied, CopyYes, CopyNo, NeverSame, RuleIsRefuted, Shadows, ShadowsNot, answers, known_below, Choice as Source, by_clause, by_rule, by_parts, by_size, IsConcreteHead, IsConcrete, IsTraitKind, IsSelectable, IsOnlyOf, HasConcreteHead, CopiesParts, IsOnlySource, StatesGoal, SizeIsBy, IsDeep, Selects, IsChoice, HasHeads}
 use Rattle.hir_types.specs.declared.head.Head.TheVariants as head
-use Rattle.hir_types.specs.Terms.{Term, hole, leaf, pair}
-use Rattle.goal_answers.specs.Reading.{Aliases, Reads, role, IsReadLeaf, IsRead}
-use Rattle.goal_answers.specs.Goals.{Kind, implements, projects, Asked, Rule, System, asked_at, key, self_type, is_among, OneIf, Each, SomeOf, Verdicts}
-use Rattle.goal_answers.specs.Rows.{Copied, with_parts, by_impls, unclear, copied, CopyYes, CopyNo}
-use Rattle.goal_answers.specs.Answers.{NeverSame, RuleIsRefuted, Shadows, ShadowsNot, answers}
-use Rattle.goal_answers.specs.Steps.{known_below}
-use Rattle.goal_answers.specs.Selecting.{Choice as Source, by_clause, by_rule, by_parts, by_size, IsConcreteHead, IsConcrete, IsTraitKind, IsSelectable, IsOnlyOf, HasConcreteHead, CopiesParts, IsOnlySource, StatesGoal, SizeIsBy, IsDeep, Selects, IsChoice}
-use Rattle.goal_answers.proofs.Lists.{each_map, some_each}
-use Rattle.goal_answers.proofs.Readings.{apply_hole}
-use Rattle.goal_answers.proofs.One.{shadows_or_not, copy_or}
-use Rattle.goal_answers.proofs.Levels.{level}
-use Rattle.goal_terms.specs.Terms.{HasHeads}
-use Rattle.goal_search.specs.declared.answer.Answer.{Answer}
+use Rattle.goal_search.proofs.Words.{each_map, some_each, apply_hole, shadows_or_not, copy_or, level}
+use Rattle.goal_search.specs.Own.{Answer, Copies, Row, Choice, CopiedAre, CopiesIf, CopiesAre, IsDone, Decides, Holds, HoldsNot, choice_of, IsLeft, IsRow, IsBy, IsConcreteIf}
 use Rattle.goal_search.specs.declared.answer.Answer.TheVariants as answer
 use Rattle.goal_search.specs.declared.rules.Side.TheVariants as side
-use Rattle.goal_search.specs.declared.rows.Copies.{Copies}
 use Rattle.goal_search.specs.declared.rows.Copies.TheVariants as copies
 use Rattle.goal_search.specs.declared.choose.Left.TheVariants as left
-use Rattle.goal_search.specs.declared.choose.Row.{Row}
 use Rattle.goal_search.specs.declared.choose.Row.TheVariants as row
-use Rattle.goal_search.specs.declared.choose.Choice.{Choice}
 use Rattle.goal_search.specs.declared.choose.Choice.TheVariants as choice
-use Rattle.goal_search.specs.Parts.{CopiedAre, CopiesIf, CopiesAre}
-use Rattle.goal_search.specs.Searching.{IsDone, Decides, Holds, HoldsNot}
-use Rattle.goal_search.specs.Choosing.{choice_of, IsLeft, IsRow, IsBy, IsConcreteIf}
 use Rattle.goal_search.proofs.Deciding.{holds_shadows, shadows_holds, key_refuted, refuted_key, PartsAnswer, copies_decide}
 use Rattle.goal_search.proofs.Only.{some_get, only_same, only_each}
 

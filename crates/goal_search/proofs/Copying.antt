@@ -1,17 +1,11 @@
 -- The goals of the parts of a type that is copied.
 use Rattle.std.proofs.Common.{◌≡◌, Bool, true, false, refl, sym, subst, List, [], ◌∷◌, map, Option, Some, None}
 use Rattle.std.proofs.lemmas.Option.{same_Some}
-use Rattle.hir_types.specs.declared.head.Head.{Head}
+use Rattle.goal_search.specs.Words.{Head, Mutability, Term, hole, leaf, pair, Kind, System, self_type, only, is_among, Each, Copied, with_parts, by_impls, unclear, copied_head, copied, with_part, types_of}
 use Rattle.hir_types.specs.declared.head.Head.TheVariants as head
-use Rattle.hir_types.specs.declared.ty.Mutability.{Mutability}
 use Rattle.hir_types.specs.declared.ty.Mutability.TheVariants as mutability
-use Rattle.hir_types.specs.Terms.{Term, hole, leaf, pair}
-use Rattle.goal_answers.specs.Goals.{Kind, System, self_type, only, is_among, Each}
-use Rattle.goal_answers.specs.Rows.{Copied, with_parts, by_impls, unclear, copied_head, copied, with_part, types_of}
 use Rattle.goal_search.specs.declared.rows.Copies.TheVariants as copies
-use Rattle.goal_search.specs.Sources.{asked_list}
-use Rattle.goal_search.specs.Parts.{copied_asked, CopiedAre, CopiesIf, CopiesAre}
-use Rattle.goal_search.specs.Searching.{IsDone, PredIsDone}
+use Rattle.goal_search.specs.Own.{asked_list, copied_asked, CopiedAre, CopiesIf, CopiesAre, IsDone, PredIsDone}
 use Rattle.goal_search.proofs.Walking.{stay_done}
 
 pub self_done : (w : Term) → IsDone w → IsDone (self_type w)

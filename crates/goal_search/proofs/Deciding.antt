@@ -1,27 +1,11 @@
 -- Answers, of what was asked one by one.
 use Rattle.std.proofs.Common.{◌≡◌, ◌⊎◌, inl, inr, ℕ, zero, suc, Bool, true, false, true≢false, refl, sym, ap, ◌∙◌, subst, eqb-true, eq-eqb, List, [], ◌∷◌, map, Option, nat_eq}
-use Rattle.hir_types.specs.declared.ids.TraitId.{TraitId}
-use Rattle.hir_types.specs.declared.ids.TypeAliasId.{TypeAliasId}
-use Rattle.hir_types.specs.Terms.{Term, hole, apply}
-use Rattle.goal_answers.specs.Reading.{Fill, Aliases, Reads, ReadsAs}
-use Rattle.goal_answers.specs.Goals.{Kind, implements, projects, Asked, Rule, System, asked_at, key, IsKnown, self_type, only, is_among, OneIf, Each, SomeOf, Verdicts}
-use Rattle.goal_answers.specs.Rows.{Copied, with_parts, by_impls, unclear, copied, types_of, EachType, SomeType, CopyYes, CopyNo, SizedYes, SizedNo}
-use Rattle.goal_answers.specs.Answers.{IsRefuted, Proves, RuleIsRefuted, Shadows, ShadowsNot, HasSource, HasNoSource, IsItself, IsNeverItself, YesAt, NoAt, alias_first, nothing, answers}
-use Rattle.goal_answers.specs.Steps.{known_below}
-use Rattle.goal_answers.proofs.Lists.{each_map, some_map, some_each}
-use Rattle.goal_answers.proofs.Readings.{apply_hole, reads_one}
-use Rattle.goal_answers.proofs.Filled.{CopyYesBy, CopyNoBy}
-use Rattle.goal_answers.proofs.One.{proves_or_refuted, shadows_or_not, copy_or, itself_or, source_or_none}
-use Rattle.goal_answers.proofs.Levels.{FillsAreRead, level}
-use Rattle.goal_search.specs.declared.answer.Answer.{Answer}
+use Rattle.goal_search.specs.Words.{TraitId, TypeAliasId, Term, hole, apply, Fill, Aliases, Reads, ReadsAs, Kind, implements, projects, Asked, Rule, System, asked_at, key, IsKnown, self_type, only, is_among, OneIf, Each, SomeOf, Verdicts, Copied, with_parts, by_impls, unclear, copied, types_of, EachType, SomeType, CopyYes, CopyNo, SizedYes, SizedNo, IsRefuted, Proves, RuleIsRefuted, Shadows, ShadowsNot, HasSource, HasNoSource, IsItself, IsNeverItself, YesAt, NoAt, alias_first, nothing, answers, known_below}
+use Rattle.goal_search.proofs.Words.{each_map, some_map, some_each, apply_hole, reads_one, CopyYesBy, CopyNoBy, proves_or_refuted, shadows_or_not, copy_or, itself_or, source_or_none, FillsAreRead, level}
+use Rattle.goal_search.specs.Own.{Answer, Copies, either, unless_no, shadowed, asked_list, copied_asked, PartsAre, CopiedAre, CopiesIf, CopiesAre, PredIsDone, Decides, Holds, HoldsNot}
 use Rattle.goal_search.specs.declared.answer.Answer.TheVariants as answer
 use Rattle.goal_search.specs.declared.rules.Side.TheVariants as side
-use Rattle.goal_search.specs.declared.rows.Copies.{Copies}
 use Rattle.goal_search.specs.declared.rows.Copies.TheVariants as copies
-use Rattle.goal_search.specs.Combined.{either, unless_no, shadowed}
-use Rattle.goal_search.specs.Sources.{asked_list}
-use Rattle.goal_search.specs.Parts.{copied_asked, PartsAre, CopiedAre, CopiesIf, CopiesAre}
-use Rattle.goal_search.specs.Searching.{PredIsDone, Decides, Holds, HoldsNot}
 use Rattle.goal_search.proofs.SoFar.{decides_same}
 use Rattle.goal_search.proofs.Heads.{reads_at, reads_before}
 

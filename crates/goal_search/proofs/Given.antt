@@ -1,26 +1,14 @@
 -- What rules give an alias, one by one.
 use Rattle.std.proofs.lemmas.Bool.{or_right}
 use Rattle.std.proofs.Common.{◌≡◌, inl, inr, ℕ, zero, suc, ◌+◌, ◌-◌, ◌<◌, ◌≤◌, arith, true, refl, sym, ap, ◌∙◌, subst, List, [], ◌∷◌, length, get_or, Option, Some, None}
-use Rattle.hir_types.specs.declared.ids.TypeAliasId.{TypeAliasId}
-use Rattle.hir_types.specs.declared.head.Hole.{Hole}
-use Rattle.hir_types.specs.Terms.{Term, pair, occurs}
-use Rattle.goal_answers.specs.Reading.{Fill, role, alias, stands, Aliases, Reads}
-use Rattle.goal_answers.specs.Goals.{Kind, projects, Rule, System, args_of, type_of, key, Each, OneOf, IsTold, Verdicts}
-use Rattle.goal_answers.specs.Answers.{IsRefuted, Gives, GivesNone, answers}
-use Rattle.goal_answers.specs.Proofs.{IsOne}
-use Rattle.goal_answers.specs.Steps.{known_below, HoldsAt, ReadingIs, AliasIs}
-use Rattle.goal_answers.proofs.Upto.{each_more, each_at, each_all, one_more, last_one_more, one_all, one_at, one_before, each_of_map, each_in_map, one_of_map, one_in_map}
-use Rattle.goal_answers.proofs.Readings.{ReadsBy, reads_may, reads_one, reads_agree, may_tells}
-use Rattle.goal_answers.proofs.One.{not_refuted, args_tell, occurs_type}
-use Rattle.goal_answers.proofs.Levels.{level}
-use Rattle.goal_terms.specs.Terms.{term_of, HasHeads, IsHead, term_of_pair}
+use Rattle.goal_search.specs.Words.{TypeAliasId, Hole, Term, pair, occurs, Fill, role, alias, stands, Aliases, Reads, Kind, projects, Rule, System, args_of, type_of, key, Each, OneOf, Verdicts, IsRefuted, Gives, GivesNone, answers, IsOne, known_below, HoldsAt, ReadingIs, AliasIs, term_of, HasHeads, IsHead, term_of_pair}
+use Rattle.goal_search.specs.Words.goal_answers.Goals.{IsTold}
+use Rattle.goal_search.proofs.Words.{each_more, each_at, each_all, one_more, last_one_more, one_all, one_at, one_before, each_of_map, each_in_map, one_of_map, one_in_map, ReadsBy, reads_may, reads_one, reads_agree, may_tells, not_refuted, args_tell, occurs_type, level}
 use Rattle.goal_terms.specs.declared.term.Term.{Term as Owned}
 use Rattle.goal_terms.specs.declared.term.Term.TheVariants as owned
 use Rattle.goal_search.specs.declared.rules.Side.TheVariants as side
-use Rattle.goal_search.specs.declared.sources.Rule.{Rule as OwnedRule}
+use Rattle.goal_search.specs.Own.{Rule as OwnedRule, rule_of, rules_of, IsDone, FillsAreDone, side_part, side_preds, GivenIs}
 use Rattle.goal_search.specs.declared.search.Given.TheVariants as given
-use Rattle.goal_search.specs.Sources.{rule_of, rules_of}
-use Rattle.goal_search.specs.Searching.{IsDone, FillsAreDone, side_part, side_preds, GivenIs}
 use Rattle.goal_search.proofs.SoFar.{GivenSoFar}
 use Rattle.goal_search.proofs.Heads.{may_done}
 

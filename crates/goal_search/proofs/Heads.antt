@@ -1,21 +1,10 @@
 -- What is read has no alias left, and heads.
 use Rattle.std.proofs.Common.{◌≡◌, inl, inr, ℕ, zero, suc, true, true≢false, refl, sym, ap, ap₂, ◌∙◌, subst, List, [], ◌∷◌}
 use Rattle.std.proofs.lemmas.Bool.{or_cases, or_left, or_right}
-use Rattle.hir_types.specs.declared.ids.TypeAliasId.{TypeAliasId}
-use Rattle.hir_types.specs.declared.head.Hole.{Hole}
-use Rattle.hir_types.specs.Terms.{Term, hole, leaf, pair, apply, occurs}
-use Rattle.goal_answers.specs.Below.{hole_eq_true, hole_eq_same}
-use Rattle.goal_answers.specs.Reading.{Fill, Role, plain, alias, role, staying, IsRead, stands, Aliases, Reads, ReadsAs, MayRead}
-use Rattle.goal_answers.specs.Goals.{Kind, implements, projects, Rule, System, args_of, type_of, key, Each, SomeOf, OneOf, Verdicts}
-use Rattle.goal_answers.specs.Answers.{Gives, GivesNone, alias_next, answers}
-use Rattle.goal_answers.proofs.Lists.{one_some}
-use Rattle.goal_answers.proofs.Readings.{role_read, ReadsBy, MayReadBy, stands_by, reads_may, read_reads}
-use Rattle.goal_answers.proofs.One.{occurs_type}
-use Rattle.goal_answers.proofs.Levels.{AliasIsRead, FillsAreRead, reads_read, may_read, answers_read}
-use Rattle.goal_terms.specs.Terms.{IsHead, HasHeads}
-use Rattle.goal_search.specs.declared.sources.Sources.{Sources}
-use Rattle.goal_search.specs.Sources.{system}
-use Rattle.goal_search.specs.Searching.{IsDone, FillsAreDone, RuleHasHeads, SystemHasHeads}
+use Rattle.goal_search.specs.Words.{TypeAliasId, Hole, Term, hole, leaf, pair, apply, occurs, hole_eq_true, hole_eq_same, Fill, plain, alias, role, staying, IsRead, stands, Aliases, Reads, ReadsAs, MayRead, Kind, implements, projects, Rule, System, args_of, type_of, key, Each, SomeOf, OneOf, Verdicts, Gives, GivesNone, alias_next, answers, IsHead, HasHeads}
+use Rattle.goal_search.specs.Words.goal_answers.Reading.{Role}
+use Rattle.goal_search.proofs.Words.{one_some, role_read, ReadsBy, MayReadBy, stands_by, reads_may, read_reads, occurs_type, AliasIsRead, FillsAreRead, reads_read, may_read, answers_read}
+use Rattle.goal_search.specs.Own.{Sources, system, IsDone, FillsAreDone, RuleHasHeads, SystemHasHeads}
 
 -- ---- parts with heads
 

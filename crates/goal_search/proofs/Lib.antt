@@ -9,3 +9,4 @@ pub mod Small
 pub mod Sizes
 pub mod Only
 pub mod Choosing
+pub mod Words

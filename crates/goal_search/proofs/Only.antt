@@ -4,11 +4,9 @@ use Rattle.std.proofs.Math.Dec.{ltb}
 use Rattle.std.proofs.lemmas.Bool.{ltb-true, ltb-false, eqb-false}
 use Rattle.std.proofs.lemmas.Option.{same_Some}
 use Rattle.std.proofs.lemmas.List.{length-map}
-use Rattle.goal_answers.specs.Goals.{Each, SomeOf}
-use Rattle.goal_answers.specs.Selecting.{IsOnlyOf}
-use Rattle.goal_search.specs.declared.choose.Left.{Left}
+use Rattle.goal_search.specs.Words.{Each, SomeOf, IsOnlyOf}
+use Rattle.goal_search.specs.Own.{Left, IsLeft}
 use Rattle.goal_search.specs.declared.choose.Left.TheVariants as left
-use Rattle.goal_search.specs.Choosing.{IsLeft}
 
 -- ---- entries at an index
 

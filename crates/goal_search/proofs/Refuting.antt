@@ -1,25 +1,13 @@
 -- What a rule says of a goal, by what its side is found to be.
 use Rattle.std.specs.Prelude.{not, IsTrue, MatchBool}
 use Rattle.std.proofs.Common.{◌≡◌, inl, inr, ℕ, Bool, true, false, true≢false, refl, sym, ◌∙◌, subst, List}
-use Rattle.hir_types.specs.declared.head.Hole.{Hole}
-use Rattle.hir_types.specs.Terms.{Term}
-use Rattle.goal_answers.specs.Reading.{Fill, stands, Aliases, Reads, MayRead}
-use Rattle.goal_answers.specs.Goals.{Kind, Asked, Rule, System, asked_at, Each, SomeOf, IsTold, Verdicts}
-use Rattle.goal_answers.specs.Answers.{NeverSame, IsRefuted, answers}
-use Rattle.goal_answers.specs.Steps.{known_below, HoldsAt, Tells}
-use Rattle.goal_answers.proofs.Lists.{each_with, some_each}
-use Rattle.goal_answers.proofs.Readings.{reads_may, reads_one}
-use Rattle.goal_answers.proofs.One.{head_tells, key_tells, occurs_key}
-use Rattle.goal_answers.proofs.Levels.{level}
-use Rattle.goal_answers.proofs.Fits.{part_here, preds_here, reading_here, not_refuted_here}
-use Rattle.goal_terms.specs.Terms.{HasHeads}
-use Rattle.goal_terms.specs.Opening.{IsCommon}
-use Rattle.goal_terms.specs.Same.{CanBeSame}
-use Rattle.goal_search.specs.declared.answer.Answer.{Answer}
+use Rattle.goal_search.specs.Words.{Hole, Term, Fill, stands, Aliases, Reads, MayRead, Kind, Asked, Rule, System, asked_at, Each, SomeOf, Verdicts, NeverSame, IsRefuted, answers, known_below, HoldsAt, HasHeads, IsCommon, CanBeSame}
+use Rattle.goal_search.specs.Words.goal_answers.Goals.{IsTold}
+use Rattle.goal_search.specs.Words.goal_answers.Steps.{Tells}
+use Rattle.goal_search.proofs.Words.{each_with, some_each, reads_may, reads_one, head_tells, key_tells, occurs_key, level, part_here, preds_here, reading_here, not_refuted_here}
+use Rattle.goal_search.specs.Own.{Answer, Side, IsDone, FillsAreDone, PredIsDone, RuleHasHeads, SystemHasHeads, Decides, side_part, side_preds, HoldsNot}
 use Rattle.goal_search.specs.declared.answer.Answer.TheVariants as answer
-use Rattle.goal_search.specs.declared.rules.Side.{Side}
 use Rattle.goal_search.specs.declared.rules.Side.TheVariants as side
-use Rattle.goal_search.specs.Searching.{IsDone, FillsAreDone, PredIsDone, RuleHasHeads, SystemHasHeads, Decides, side_part, side_preds, HoldsNot}
 use Rattle.goal_search.proofs.Heads.{key_heads}
 
 -- ---- sides

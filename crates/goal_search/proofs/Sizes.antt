@@ -1,22 +1,9 @@
 -- What has a size because a source of one of several traits says so.
 use Rattle.std.proofs.Common.{◌≡◌, ◌⊎◌, inl, inr, ℕ, zero, suc, ◌+◌, ◌<◌, refl, subst, arith, List, [], ◌∷◌, length, take, get_or, Option, Some, None}
-use Rattle.hir_types.specs.declared.ids.TraitId.{TraitId}
-use Rattle.hir_types.specs.Terms.{Term, hole}
-use Rattle.goal_answers.specs.Reading.{Aliases, ReadsAs}
-use Rattle.goal_answers.specs.Goals.{Kind, implements, System, IsKnown, only, Each, SomeOf, Verdicts}
-use Rattle.goal_answers.specs.Rows.{Tail, has_size, has_none, field, last, asked, unclear_tail, tail_of, SizedYes}
-use Rattle.goal_answers.specs.Answers.{HasSource, answers}
-use Rattle.goal_answers.specs.Steps.{known_below}
-use Rattle.goal_answers.proofs.Lists.{or_map, some_map}
-use Rattle.goal_answers.proofs.Upto.{each_more, some_at, none_of}
-use Rattle.goal_answers.proofs.Readings.{reads_one}
-use Rattle.goal_answers.proofs.Filled.{SizedYesBy}
-use Rattle.goal_answers.proofs.Deeper.{sized_yes_more}
-use Rattle.goal_answers.proofs.One.{sized_or, source_or_none}
-use Rattle.goal_answers.proofs.Levels.{level}
-use Rattle.goal_search.specs.declared.answer.Answer.{Answer}
+use Rattle.goal_search.specs.Words.{TraitId, Term, hole, Aliases, ReadsAs, Kind, implements, System, IsKnown, only, Each, SomeOf, Verdicts, Tail, has_size, has_none, field, last, asked, unclear_tail, tail_of, SizedYes, HasSource, answers, known_below}
+use Rattle.goal_search.proofs.Words.{or_map, some_map, each_more, some_at, none_of, reads_one, SizedYesBy, sized_yes_more, sized_or, source_or_none, level}
+use Rattle.goal_search.specs.Own.{Answer, IsSaid, IsDenied, IsSizedBy, WalkIs, IsSizedAt}
 use Rattle.goal_search.specs.declared.answer.Answer.TheVariants as answer
-use Rattle.goal_search.specs.Sized.{IsSaid, IsDenied, IsSizedBy, WalkIs, IsSizedAt}
 
 same_at : {X : Type 0} (xs : List X) (i : ℕ) (d : X) → i < length xs → get_or xs i d ≡ get_or xs i (get_or xs i d)
 same_at [] i d h = absurd (omega arith)

@@ -2,20 +2,10 @@
 use Rattle.std.proofs.Common.{◌≡◌, inl, inr, ℕ, suc, Bool, true, false, true≢false, ◌||◌, cond, refl, sym, ap, ap₂, ◌∙◌, subst, List, Option, Some, None, Result, IfOk}
 use Rattle.std.proofs.lemmas.Bool.{or_left, or_right}
 use Rattle.std.proofs.lemmas.Result.{IfOk-weaker}
-use Rattle.hir_types.specs.declared.ids.TypeAliasId.{TypeAliasId}
-use Rattle.hir_types.specs.declared.head.Head.{Head}
-use Rattle.hir_types.specs.declared.head.Hole.{Hole}
-use Rattle.hir_types.specs.Terms.{Term, hole, leaf, pair, apply, occurs, hole_number}
-use Rattle.goal_answers.specs.Below.{apply_agree, hole_eq_true, hole_eq_same, pair_left, pair_right}
-use Rattle.goal_answers.specs.Reading.{Fill, staying}
-use Rattle.goal_answers.specs.Goals.{Kind as AskedKind, projects, Asked as AskedGoal, Rule as SourceRule, args_of}
-use Rattle.goal_answers.specs.Rows.{types_of, IsNth, AreArgs}
-use Rattle.goal_answers.specs.Answers.{CannotGive, IsItself, IsNeverItself}
-use Rattle.goal_answers.proofs.Parts.{nth_one}
-use Rattle.goal_terms.specs.Opening.{IsCommon}
-use Rattle.goal_terms.specs.Same.{CanBeItself}
+use Rattle.goal_search.specs.Words.{TypeAliasId, Head, Hole, Term, hole, leaf, pair, apply, occurs, hole_number, apply_agree, hole_eq_true, hole_eq_same, pair_left, pair_right, Fill, staying, Kind as AskedKind, projects, Asked as AskedGoal, Rule as SourceRule, args_of, types_of, IsNth, AreArgs, CannotGive, IsItself, IsNeverItself, IsCommon, CanBeItself}
+use Rattle.goal_search.proofs.Words.{nth_one}
 use Rattle.goal_search.specs.declared.rows.Part.TheVariants as part
-use Rattle.goal_search.specs.Parts.{IsNthIf, IsFieldAt, with_kind, IsPartKind, PushesGoals}
+use Rattle.goal_search.specs.Own.{IsNthIf, IsFieldAt, with_kind, IsPartKind, PushesGoals}
 
 -- ---- places
 

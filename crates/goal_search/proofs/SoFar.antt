@@ -1,15 +1,9 @@
 -- What the elements before an index decide.
 use Rattle.std.proofs.Common.{◌≡◌, ℕ, ◌+◌, ◌<◌, ◌≤◌, List, [], ◌∷◌, ◌++◌, length, take, get_or, Option, Some, None}
-use Rattle.hir_types.specs.declared.ids.TypeAliasId.{TypeAliasId}
-use Rattle.hir_types.specs.Terms.{Term}
-use Rattle.goal_answers.specs.Goals.{Each, SomeOf, OneOf, Verdicts}
-use Rattle.goal_answers.specs.Answers.{Gives, GivesNone}
-use Rattle.goal_answers.proofs.Upto.{each_more, each_at, each_all, none_of}
-use Rattle.goal_search.specs.declared.answer.Answer.{Answer}
+use Rattle.goal_search.specs.Words.{TypeAliasId, Term, Each, SomeOf, OneOf, Verdicts, Gives, GivesNone}
+use Rattle.goal_search.proofs.Words.{each_more, each_at, each_all, none_of}
+use Rattle.goal_search.specs.Own.{Answer, Rule, rule_of, Decides}
 use Rattle.goal_search.specs.declared.answer.Answer.TheVariants as answer
-use Rattle.goal_search.specs.declared.sources.Rule.{Rule}
-use Rattle.goal_search.specs.Sources.{rule_of}
-use Rattle.goal_search.specs.Searching.{Decides}
 
 -- as the question whether one is so, or all are not, or neither
 abbrev pub AnySoFar : {X : Type 0} → (X → Type 0) → (X → Type 0) → List X → ℕ → Answer → Type 0

@@ -1,23 +1,11 @@
 -- The walk that tells whether a type has a size.
 use Rattle.std.proofs.Common.{◌≡◌, ℕ, zero, suc, refl, sym, ap, ◌∙◌, subst, Option, Some, None}
 use Rattle.std.proofs.lemmas.Bool.{or_left, or_right}
-use Rattle.hir_types.specs.declared.ids.AdtId.{AdtId}
-use Rattle.hir_types.specs.declared.head.Head.{Head}
+use Rattle.goal_search.specs.Words.{AdtId, Head, Term, hole, leaf, pair, apply, occurs, hole_number, apply_agree, hole_eq_same, Fill, plain, role, Aliases, ReadsAs, System, only, IsKnown, IsLastPart, IsLast, IsNth, AreArgs, Tail, field, last, asked, field_tail, tuple_tail, head_tail, tail_of, SizedYes, SizedNo, IsOne, IsHead, HasHeads}
 use Rattle.hir_types.specs.declared.head.Head.TheVariants as head
-use Rattle.hir_types.specs.Terms.{Term, hole, leaf, pair, apply, occurs, hole_number}
-use Rattle.goal_answers.specs.Below.{apply_agree, hole_eq_same}
-use Rattle.goal_answers.specs.Reading.{Fill, plain, role, Aliases, ReadsAs}
-use Rattle.goal_answers.specs.Goals.{System, only, IsKnown}
-use Rattle.goal_answers.specs.Rows.{IsLastPart, IsLast, IsNth, AreArgs, Tail, field, last, asked, field_tail, tuple_tail, head_tail, tail_of, SizedYes, SizedNo}
-use Rattle.goal_answers.proofs.Parts.{last_one, nth_one}
-use Rattle.goal_answers.proofs.Readings.{role_read, reads_one}
-use Rattle.goal_answers.proofs.Filled.{SizedYesBy, SizedNoBy}
-use Rattle.goal_answers.specs.Proofs.{IsOne}
-use Rattle.goal_terms.specs.Terms.{IsHead, HasHeads}
-use Rattle.goal_search.specs.declared.answer.Answer.{Answer}
+use Rattle.goal_search.proofs.Words.{last_one, nth_one, role_read, reads_one, SizedYesBy, SizedNoBy}
+use Rattle.goal_search.specs.Own.{Answer, IsFieldAt, IsDone, FillsAreDone, SystemHasHeads, Decides}
 use Rattle.goal_search.specs.declared.answer.Answer.TheVariants as answer
-use Rattle.goal_search.specs.Parts.{IsFieldAt}
-use Rattle.goal_search.specs.Searching.{IsDone, FillsAreDone, SystemHasHeads, Decides}
 use Rattle.goal_search.proofs.SoFar.{decides_same}
 
 -- ---- what is met on the way

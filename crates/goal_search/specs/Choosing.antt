@@ -1,9 +1,6 @@
 -- Which source a goal is selected by, as the search finds it.
 use Rattle.std.specs.Prelude.{◌≡◌, ℕ, List, Option, Some, None, slice_get}
-use Rattle.hir_types.specs.Terms.{Term}
-use Rattle.goal_answers.specs.Goals.{Kind, Rule, System, Each, SomeOf, Verdicts}
-use Rattle.goal_answers.specs.Rows.{CopyNo}
-use Rattle.goal_answers.specs.Selecting.{Choice as Source, by_clause, by_rule, by_parts, by_size, IsOnlyOf, HasConcreteHead, CopiesParts}
+use Rattle.goal_search.specs.Words.{Term, Kind, Rule, System, Each, SomeOf, Verdicts, CopyNo, Choice as Source, by_clause, by_rule, by_parts, by_size, IsOnlyOf, HasConcreteHead, CopiesParts}
 use Rattle.goal_search.specs.declared.choose.Choice.{Choice}
 use Rattle.goal_search.specs.declared.choose.Choice.TheVariants as choice
 use Rattle.goal_search.specs.declared.choose.Left.{Left}

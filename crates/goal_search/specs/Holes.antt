@@ -1,7 +1,5 @@
 -- What stands for the holes of a term that is read.
-use Rattle.hir_types.specs.Terms.{hole}
-use Rattle.goal_answers.specs.Reading.{Fill}
-use Rattle.goal_terms.specs.Bindings.{log_of, fill_of}
+use Rattle.goal_search.specs.Words.{hole, Fill, log_of, fill_of}
 use Rattle.goal_search.specs.declared.holes.Holes.{Holes}
 use Rattle.goal_search.specs.declared.holes.Holes.TheVariants as holes
 

@@ -1,10 +1,6 @@
 -- Answers that are kept.
 use Rattle.std.specs.Prelude.{ℕ, List}
-use Rattle.hir_types.specs.Terms.{Term}
-use Rattle.goal_answers.specs.Goals.{Kind, System, Each}
-use Rattle.goal_answers.specs.Answers.{YesAt, NoAt, answers}
-use Rattle.goal_answers.specs.Steps.{known_below}
-use Rattle.goal_terms.specs.Terms.{term_of}
+use Rattle.goal_search.specs.Words.{Term, Kind, System, Each, YesAt, NoAt, answers, known_below, term_of}
 use Rattle.goal_search.specs.declared.answer.Answer.{Answer}
 use Rattle.goal_search.specs.declared.kept.Entry.{Entry}
 use Rattle.goal_search.specs.Sources.{kind_of}

@@ -6,3 +6,5 @@ pub mod Searching
 pub mod Keeping
 pub mod Sized
 pub mod Choosing
+pub mod Words
+pub mod Own

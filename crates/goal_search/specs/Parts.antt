@@ -1,11 +1,7 @@
 -- What the parts of terms are found to be.
 use Rattle.std.specs.Prelude.{◌≡◌, ◌++◌, ℕ, Bool, true, false, List, ◌∷◌, Option, Some, None, map}
 use Rattle.hir_types.specs.declared.head.Head.TheVariants as head
-use Rattle.hir_types.specs.Terms.{Term, leaf, apply}
-use Rattle.goal_answers.specs.Reading.{Fill}
-use Rattle.goal_answers.specs.Goals.{Kind as AskedKind, Asked as AskedGoal, System, self_type, only, is_among}
-use Rattle.goal_answers.specs.Rows.{Copied as CopiedRow, with_parts, by_impls, unclear, copied as copied_row, with_part, types_of, Tail as TailRow, has_size, has_none, field, last, asked, unclear_tail, IsLastPart, IsLast, IsNth, AreArgs}
-use Rattle.goal_terms.specs.Terms.{term_of}
+use Rattle.goal_search.specs.Words.{Term, leaf, apply, Fill, Kind as AskedKind, Asked as AskedGoal, System, self_type, only, is_among, Copied as CopiedRow, with_parts, by_impls, unclear, copied as copied_row, with_part, types_of, Tail as TailRow, has_size, has_none, field, last, asked, unclear_tail, IsLastPart, IsLast, IsNth, AreArgs, term_of}
 use Rattle.goal_search.specs.Sources.{asked_list}
 use Rattle.goal_search.specs.declared.answer.Answer.TheVariants as answer
 use Rattle.goal_search.specs.declared.rows.Copied.{Copied}

@@ -1,14 +1,6 @@
 -- What the steps of a search find.
 use Rattle.std.specs.Prelude.{◌≡◌, ◌⊎◌, ◌+◌, ◌≤◌, ℕ, true, List, [], Option, Some, None}
-use Rattle.hir_types.specs.declared.ids.AdtId.{AdtId}
-use Rattle.hir_types.specs.declared.ids.TypeAliasId.{TypeAliasId}
-use Rattle.hir_types.specs.declared.head.Hole.{Hole}
-use Rattle.hir_types.specs.Terms.{Term, occurs}
-use Rattle.goal_answers.specs.Reading.{Fill, IsRead, Aliases, staying}
-use Rattle.goal_answers.specs.Goals.{Kind, Asked, Rule, System, key, Each, OneOf, Verdicts}
-use Rattle.goal_answers.specs.Answers.{IsRefuted, Gives, GivesNone, CannotGive}
-use Rattle.goal_answers.specs.Steps.{HoldsAt}
-use Rattle.goal_terms.specs.Terms.{term_of, HasHeads}
+use Rattle.goal_search.specs.Words.{AdtId, TypeAliasId, Hole, Term, occurs, Fill, IsRead, Aliases, staying, Kind, Asked, Rule, System, key, Each, OneOf, Verdicts, IsRefuted, Gives, GivesNone, CannotGive, HoldsAt, term_of, HasHeads}
 use Rattle.goal_search.specs.declared.answer.Answer.{Answer}
 use Rattle.goal_search.specs.declared.answer.Answer.TheVariants as answer
 use Rattle.goal_search.specs.declared.rules.Side.{Side}

@@ -1,11 +1,6 @@
 -- What has a size, as the search finds it.
 use Rattle.std.specs.Prelude.{ℕ, Option, Some, None}
-use Rattle.hir_types.specs.Terms.{Term}
-use Rattle.goal_answers.specs.Reading.{ReadsAs}
-use Rattle.goal_answers.specs.Goals.{Kind, implements, System, IsKnown, only, SomeOf}
-use Rattle.goal_answers.specs.Answers.{HasSource, HasNoSource, answers}
-use Rattle.goal_answers.specs.Rows.{SizedYes, SizedNo}
-use Rattle.goal_answers.specs.Steps.{known_below}
+use Rattle.goal_search.specs.Words.{Term, ReadsAs, Kind, implements, System, IsKnown, only, SomeOf, HasSource, HasNoSource, answers, SizedYes, SizedNo, known_below}
 use Rattle.goal_search.specs.declared.answer.Answer.{Answer}
 use Rattle.goal_search.specs.Searching.{Decides}
 

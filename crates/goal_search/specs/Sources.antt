@@ -1,9 +1,7 @@
 -- What goals are answered by, as the search holds it.
 use Rattle.std.specs.Prelude.{List, map, slice_get}
 use Rattle.std.specs.Option.{option_map, option_and_then}
-use Rattle.hir_types.specs.declared.ids.AdtId.{AdtId}
-use Rattle.goal_answers.specs.Goals.{Kind as AskedKind, implements, projects, Asked as AskedGoal, Rule as SourceRule, System}
-use Rattle.goal_terms.specs.Terms.{term_of}
+use Rattle.goal_search.specs.Words.{AdtId, Kind as AskedKind, implements, projects, Asked as AskedGoal, Rule as SourceRule, System, term_of}
 use Rattle.goal_search.specs.declared.sources.Kind.{Kind}
 use Rattle.goal_search.specs.declared.sources.Kind.TheVariants as kind
 use Rattle.goal_search.specs.declared.sources.Asked.{Asked}

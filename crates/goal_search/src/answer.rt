@@ -1,7 +1,7 @@
 //! The answer to a goal.
 ghost use Rattle.std.specs.Prelude.{◌≡◌, ◌↔◌, IsTrue};
 ghost use Rattle.goal_search.specs.declared.answer.Answer.TheVariants as answers;
-ghost use Rattle.goal_search.specs.Combined.{either, unless_no, shadowed};
+ghost use Rattle.goal_search.specs.Own.{either, unless_no, shadowed};
 
 /// What a goal is answered.
 #[derive(Clone, Copy, Debug, PartialEq, Eq)]

@@ -1,13 +1,7 @@
 //! Which source a goal is selected by.
 ghost use Rattle.std.specs.Prelude.{◌≡◌, ◌↔◌, ◌+◌, ◌<◌, IfOk, IsTrue, option_map};
-ghost use Rattle.goal_answers.specs.Goals.{Each};
-ghost use Rattle.goal_answers.specs.Answers.{Proves, RuleIsRefuted, answers};
-ghost use Rattle.goal_answers.specs.Steps.{known_below};
-ghost use Rattle.goal_answers.specs.Selecting.{IsTraitKind, IsSelectable, HasConcreteHead, IsOnlySource, StatesGoal, SizeIsBy, IsChoice};
-ghost use Rattle.goal_terms.specs.Terms.{term_of, HasHeads};
-ghost use Rattle.goal_search.specs.Sources.{kind_of, asked_of, rule_of, rules_of, system};
-ghost use Rattle.goal_search.specs.Searching.{IsDone, RuleHasHeads};
-ghost use Rattle.goal_search.specs.Choosing.{choice_of, IsSomeAt, IsLeft, IsRow, IsBy, IsConcreteIf};
+ghost use Rattle.goal_search.specs.Words.{Each, Proves, RuleIsRefuted, answers, known_below, IsTraitKind, IsSelectable, HasConcreteHead, IsOnlySource, StatesGoal, SizeIsBy, IsChoice, term_of, HasHeads};
+ghost use Rattle.goal_search.specs.Own.{kind_of, asked_of, rule_of, rules_of, system, IsDone, RuleHasHeads, choice_of, IsSomeAt, IsLeft, IsRow, IsBy, IsConcreteIf};
 
 use crate::answer::{is_no, is_yes};
 use crate::holes::Holes;

@@ -1,10 +1,7 @@
 //! What is known before the first step.
 ghost use Rattle.std.specs.Prelude.{◌≡◌, ◌↔◌, IfOk, IsTrue, option_map};
-ghost use Rattle.goal_answers.specs.Goals.{key, Each, IsKnown};
-ghost use Rattle.goal_answers.specs.Answers.{IsItself, IsNeverItself, CannotGive};
-ghost use Rattle.goal_terms.specs.Terms.{term_of};
-ghost use Rattle.goal_search.specs.Sources.{kind_of, rules_of, system};
-ghost use Rattle.goal_search.specs.Searching.{Decides, IsDone, RuleHasHeads, SystemHasHeads, StaysFirst};
+ghost use Rattle.goal_search.specs.Words.{key, Each, IsKnown, IsItself, IsNeverItself, CannotGive, term_of};
+ghost use Rattle.goal_search.specs.Own.{kind_of, rules_of, system, Decides, IsDone, RuleHasHeads, SystemHasHeads, StaysFirst};
 
 use crate::answer::Answer;
 use crate::parts::{args_of, is_same_kind};
@@ -57,7 +54,7 @@ pub fn stays_first(
 }
 
 /// Whether a projection's two sides are the same, can't be, or neither is known.
-#[tactic(auto, using(goal_terms::specs::Terms::term_is))]
+#[tactic(auto, using(crate::specs::Words::term_is))]
 pub fn is_itself(alloc: Global, kind: Kind, target: &Term) -> Result<Answer, AllocError>
     requires target { IsDone (term_of target.now) }
     requires known { IsKnown (key (kind_of kind) (term_of target.now)) }

@@ -1,7 +1,7 @@
 //! What stands for the holes of a term that is read.
 ghost use Rattle.std.specs.Prelude.{◌≡◌, IfOk};
-ghost use Rattle.goal_terms.specs.Terms.{term_of};
-ghost use Rattle.goal_search.specs.Holes.{holes_fill};
+ghost use Rattle.goal_search.specs.Words.{term_of};
+ghost use Rattle.goal_search.specs.Own.{holes_fill};
 
 use goal_terms::{Binding, Term, find};
 use hir_types::{Head, Hole};

@@ -1,8 +1,7 @@
 //! Answers that are kept, so that none is searched twice.
 ghost use Rattle.std.specs.Prelude.{◌≡◌, ◌++◌, ◌∷◌, [], true, IfSome, OnOk, OnErr};
-ghost use Rattle.goal_terms.specs.Terms.{term_of};
-ghost use Rattle.goal_search.specs.Sources.{kind_of};
-ghost use Rattle.goal_search.specs.Keeping.{FoundIs};
+ghost use Rattle.goal_search.specs.Words.{term_of};
+ghost use Rattle.goal_search.specs.Own.{kind_of, FoundIs};
 
 use crate::answer::Answer;
 use crate::parts::is_same_kind;

@@ -1,11 +1,9 @@
 //! The parts of goals.
 ghost use Rattle.std.specs.Prelude.{◌≡◌, ◌↔◌, IsTrue, IfOk};
 ghost use Rattle.std.specs.List.{list_any};
-ghost use Rattle.hir_types.specs.Terms.{leaf};
+ghost use Rattle.goal_search.specs.Words.{leaf, args_of, type_of, key, self_type, only, is_trait, is_among, IsKnownPart, IsKnown, term_of};
 ghost use Rattle.hir_types.specs.declared.head.Head.TheVariants as head;
-ghost use Rattle.goal_answers.specs.Goals.{args_of, type_of, key, self_type, only, is_trait, is_among, IsKnownPart, IsKnown};
-ghost use Rattle.goal_terms.specs.Terms.{term_of};
-ghost use Rattle.goal_search.specs.Sources.{kind_of};
+ghost use Rattle.goal_search.specs.Own.{kind_of};
 
 use crate::sources::Kind;
 use goal_terms::Term;
@@ -13,7 +11,7 @@ use hir_types::{Boxed, Head, TraitId};
 use std::alloc::{AllocError, Global};
 
 /// The arguments of a projection. `end` is the end of a list, for a goal that has none.
-#[tactic(auto, using(goal_terms::specs::Terms::term_is))]
+#[tactic(auto, using(crate::specs::Words::term_is))]
 pub fn args_of<'a>(parts: &'a Term, end: &'a Term) -> &'a Term
     requires { term_of end.now ≡ leaf head.End }
     ensures { term_of result.now ≡ args_of (term_of parts.now) }
@@ -25,7 +23,7 @@ pub fn args_of<'a>(parts: &'a Term, end: &'a Term) -> &'a Term
 }
 
 /// The type of a projection.
-#[tactic(auto, using(goal_terms::specs::Terms::term_is))]
+#[tactic(auto, using(crate::specs::Words::term_is))]
 pub fn type_of<'a>(parts: &'a Term, end: &'a Term) -> &'a Term
     requires { term_of end.now ≡ leaf head.End }
     ensures { term_of result.now ≡ type_of (term_of parts.now) }
@@ -48,7 +46,7 @@ pub fn key_of<'a>(kind: Kind, parts: &'a Term, end: &'a Term) -> &'a Term
 }
 
 /// The first of the arguments.
-#[tactic(auto, using(goal_terms::specs::Terms::term_is))]
+#[tactic(auto, using(crate::specs::Words::term_is))]
 pub fn self_type<'a>(args: &'a Term, end: &'a Term) -> &'a Term
     requires { term_of end.now ≡ leaf head.End }
     ensures { term_of result.now ≡ self_type (term_of args.now) }
@@ -62,7 +60,7 @@ pub fn self_type<'a>(args: &'a Term, end: &'a Term) -> &'a Term
     }
 }
 
-#[tactic(auto, using(goal_terms::specs::Terms::term_is))]
+#[tactic(auto, using(crate::specs::Words::term_is))]
 fn is_known_part(part: &Term) -> bool
     ensures { IsTrue result ↔ IsKnownPart (term_of part.now) }
 {
@@ -76,7 +74,7 @@ fn is_known_part(part: &Term) -> bool
 }
 
 /// Whether the first of the arguments, the self type, is no hole.
-#[tactic(auto, using(goal_terms::specs::Terms::term_is))]
+#[tactic(auto, using(crate::specs::Words::term_is))]
 pub fn is_known(args: &Term) -> bool
     ensures { IsTrue result ↔ IsKnown (term_of args.now) }
 {
@@ -87,7 +85,7 @@ pub fn is_known(args: &Term) -> bool
 }
 
 /// The arguments of a trait without parameters.
-#[tactic(auto, using(goal_terms::specs::Terms::term_is))]
+#[tactic(auto, using(crate::specs::Words::term_is))]
 pub fn only(alloc: Global, ty: &Term) -> Result<Term, AllocError>
     ensures { IfOk result (λ args. term_of args ≡ only (term_of ty.now)) }
 {

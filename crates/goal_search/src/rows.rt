@@ -1,11 +1,8 @@
 //! Goals that hold without an impl: what has a size, and what is copied.
 ghost use Rattle.std.specs.Prelude.{◌≡◌, IfOk, option_map};
-ghost use Rattle.hir_types.specs.Terms.{leaf, hole_number};
+ghost use Rattle.goal_search.specs.Words.{leaf, hole_number, types_of, copied, copied_head, tuple_tail, field_tail, head_tail, tail_of, term_of};
 ghost use Rattle.hir_types.specs.declared.head.Head.TheVariants as head;
-ghost use Rattle.goal_answers.specs.Rows.{types_of, copied, copied_head, tuple_tail, field_tail, head_tail, tail_of};
-ghost use Rattle.goal_terms.specs.Terms.{term_of};
-ghost use Rattle.goal_search.specs.Sources.{kind_of, asked_list, system};
-ghost use Rattle.goal_search.specs.Parts.{copied_of, tail_as, IsLastPartIf, IsLastIf, IsNthIf, IsFieldAt, IsPartKind, PushesGoals, PartsAre, CopiesAre};
+ghost use Rattle.goal_search.specs.Own.{kind_of, asked_list, system, copied_of, tail_as, IsLastPartIf, IsLastIf, IsNthIf, IsFieldAt, IsPartKind, PushesGoals, PartsAre, CopiesAre};
 
 use crate::answer::Answer;
 use crate::parts::{is_among, only, self_type};
@@ -54,7 +51,7 @@ fn copied_head<'a>(head: Head, parts: &'a Term) -> Copied<'a>
 }
 
 /// What has to be copied so that the type is.
-#[tactic(auto, using(goal_terms::specs::Terms::term_is))]
+#[tactic(auto, using(crate::specs::Words::term_is))]
 pub fn copied_by(ty: &Term) -> Copied<'_>
     ensures { copied_of result ≡ copied (term_of ty.now) }
 {
@@ -67,7 +64,7 @@ pub fn copied_by(ty: &Term) -> Copied<'_>
     }
 }
 
-#[tactic(auto, using(goal_terms::specs::Terms::term_is))]
+#[tactic(auto, using(crate::specs::Words::term_is))]
 fn tuple_tail(parts: &Term) -> Tail<'_>
     ensures { tail_as result ≡ tuple_tail (term_of parts.now) }
 {
@@ -100,7 +97,7 @@ fn head_tail<'a>(sources: &'a Sources, head: Head, parts: &'a Term) -> Tail<'a>
 }
 
 /// Where it is decided whether the type has a size.
-#[tactic(auto, using(goal_terms::specs::Terms::term_is))]
+#[tactic(auto, using(crate::specs::Words::term_is))]
 pub fn tail_of<'a>(sources: &'a Sources, ty: &'a Term) -> Tail<'a>
     ensures { tail_as result ≡ tail_of (system sources.now) (term_of ty.now) }
 {
@@ -113,7 +110,7 @@ pub fn tail_of<'a>(sources: &'a Sources, ty: &'a Term) -> Tail<'a>
     }
 }
 
-#[tactic(auto, using(goal_terms::specs::Terms::term_is))]
+#[tactic(auto, using(crate::specs::Words::term_is))]
 fn last_part(part: &Term) -> Option<&Term>
     ensures { IsLastPartIf (term_of part.now) (option_map (λ t. term_of t.now) result) }
 {
@@ -127,7 +124,7 @@ fn last_part(part: &Term) -> Option<&Term>
 }
 
 /// The type that is the last of the parts.
-#[tactic(auto, using(goal_terms::specs::Terms::term_is))]
+#[tactic(auto, using(crate::specs::Words::term_is))]
 pub fn last_type(parts: &Term) -> Option<&Term>
     ensures { IsLastIf (term_of parts.now) (option_map (λ t. term_of t.now) result) }
 {
@@ -158,7 +155,7 @@ pub enum Part<'a> {
     Other,
 }
 
-#[tactic(auto, using(goal_terms::specs::Terms::term_is))]
+#[tactic(auto, using(crate::specs::Words::term_is))]
 fn part_kind(part: &Term) -> Part<'_>
     ensures { IsPartKind (term_of part.now) result }
 {
@@ -173,7 +170,7 @@ fn part_kind(part: &Term) -> Part<'_>
 }
 
 /// Adds for each type among the parts that it implements the trait; false where they are no parts.
-#[tactic(auto, using(goal_terms::specs::Terms::term_is))]
+#[tactic(auto, using(crate::specs::Words::term_is))]
 fn push_goals(
     alloc: Global,
     kind: Kind,
@@ -232,7 +229,7 @@ pub fn copied_goals(
 }
 
 /// The argument at a place.
-#[tactic(auto, using(goal_terms::specs::Terms::term_is))]
+#[tactic(auto, using(crate::specs::Words::term_is))]
 fn nth(args: &Term, place: usize) -> Option<&Term>
     ensures { IsNthIf place (term_of args.now) (option_map (λ t. term_of t.now) result) }
 {
@@ -259,7 +256,7 @@ fn number_of(hole: Hole) -> usize
 }
 
 /// The type of a field at these arguments; `None` where a hole of it has none.
-#[tactic(auto, using(goal_terms::specs::Terms::term_is))]
+#[tactic(auto, using(crate::specs::Words::term_is))]
 pub fn field_at(alloc: Global, field: &Term, args: &Term) -> Result<Option<Term>, AllocError>
     ensures { IfOk result (λ at. IsFieldAt (term_of args.now) (term_of field.now) (option_map term_of at)) }
 {

@@ -1,10 +1,8 @@
 //! The parts of rules that are compared with a goal.
 ghost use Rattle.std.specs.Prelude.{◌≡◌};
-ghost use Rattle.hir_types.specs.Terms.{leaf};
+ghost use Rattle.goal_search.specs.Words.{leaf, term_of};
 ghost use Rattle.hir_types.specs.declared.head.Head.TheVariants as head;
-ghost use Rattle.goal_terms.specs.Terms.{term_of};
-ghost use Rattle.goal_search.specs.Sources.{asked_list, rule_of};
-ghost use Rattle.goal_search.specs.Searching.{side_part, side_preds};
+ghost use Rattle.goal_search.specs.Own.{asked_list, rule_of, side_part, side_preds};
 
 use crate::parts::key_of;
 use crate::sources::{Asked, Rule};

@@ -1,14 +1,7 @@
 //! The answer to a goal, and what an alias reads as, at each depth.
 ghost use Rattle.std.specs.Prelude.{◌≡◌, ◌↔◌, ◌+◌, ◌<◌, IfOk, IsTrue, map, Some, option_map};
-ghost use Rattle.goal_answers.specs.Goals.{asked_at, Each, SomeOf};
-ghost use Rattle.goal_answers.specs.Answers.{IsRefuted, HasSource, HasNoSource, YesAt, NoAt, answers};
-ghost use Rattle.goal_answers.specs.Steps.{known_below, ReadingIs, AliasIs, HoldsIf};
-ghost use Rattle.goal_terms.specs.Terms.{term_of, HasHeads};
-ghost use Rattle.goal_terms.specs.Bindings.{log_of, fill_of};
-ghost use Rattle.goal_search.specs.Sources.{kind_of, asked_of, asked_list, rule_of, rules_of, system};
-ghost use Rattle.goal_search.specs.Holes.{holes_fill};
-ghost use Rattle.goal_search.specs.Sized.{WalkIs, IsSizedAt};
-ghost use Rattle.goal_search.specs.Searching.{Decides, IsDone, FillsAreDone, PredIsDone, IsLevelBelow, RuleHasHeads, SystemHasHeads, side_part, side_preds, Holds, HoldsNot, GivenIs};
+ghost use Rattle.goal_search.specs.Words.{asked_at, Each, SomeOf, IsRefuted, HasSource, HasNoSource, YesAt, NoAt, answers, known_below, ReadingIs, AliasIs, HoldsIf, term_of, HasHeads, log_of, fill_of};
+ghost use Rattle.goal_search.specs.Own.{kind_of, asked_of, asked_list, rule_of, rules_of, system, holes_fill, WalkIs, IsSizedAt, Decides, IsDone, FillsAreDone, PredIsDone, IsLevelBelow, RuleHasHeads, SystemHasHeads, side_part, side_preds, Holds, HoldsNot, GivenIs};
 
 use crate::answer::{Answer, either, is_no, is_yes, shadowed, unless_no};
 use crate::first::{is_itself, stays_first};
@@ -99,7 +92,7 @@ impl<'a> Search<'a> {
     /// The term with what stands for its holes and what its aliases read as at the depth; `None` where an
     /// alias is open.
     #[cycle(evaluate)]
-    #[tactic(auto, using(goal_terms::specs::Terms::term_is))]
+    #[tactic(auto, using(crate::specs::Words::term_is))]
     pub fn read(
         &mut self,
         term: &Term,

@@ -1,11 +1,9 @@
 //! Whether the holes of a rule are told by its key.
 ghost use Rattle.std.specs.Prelude.{◌≡◌, ◌↔◌, IsTrue};
-ghost use Rattle.hir_types.specs.Terms.{leaf, hole_eq};
+ghost use Rattle.goal_search.specs.Words.{leaf, hole_eq, stands, Each, IsToldBy, term_of};
 ghost use Rattle.hir_types.specs.declared.head.Head.TheVariants as head;
-ghost use Rattle.goal_answers.specs.Reading.{stands};
-ghost use Rattle.goal_answers.specs.Goals.{Each, IsToldBy, IsTold};
-ghost use Rattle.goal_terms.specs.Terms.{term_of};
-ghost use Rattle.goal_search.specs.Sources.{asked_list, rule_of};
+ghost use Rattle.goal_search.specs.Words.goal_answers.Goals.{IsTold};
+ghost use Rattle.goal_search.specs.Own.{asked_list, rule_of};
 
 use crate::parts::key_of;
 use crate::sources::{Asked, Rule};
@@ -24,7 +22,7 @@ fn is_hole(left: Hole, right: Hole) -> bool
 }
 
 /// Whether the hole stands in the term, and outside of aliases that are still to be read.
-#[tactic(auto, using(goal_terms::specs::Terms::term_is))]
+#[tactic(auto, using(crate::specs::Words::term_is))]
 fn is_told_hole(hole: Hole, by: &Term) -> bool
     ensures { result ≡ stands hole (term_of by.now) }
 {
@@ -39,7 +37,7 @@ fn is_told_hole(hole: Hole, by: &Term) -> bool
 }
 
 /// Whether each hole of the term stands in the key, outside of aliases.
-#[tactic(auto, using(goal_terms::specs::Terms::term_is))]
+#[tactic(auto, using(crate::specs::Words::term_is))]
 fn is_told_by(by: &Term, term: &Term) -> bool
     ensures { IsTrue result ↔ IsToldBy (term_of by.now) (term_of term.now) }
 {

@@ -1,32 +1,11 @@
 -- What a choice tells at each filling of the goal's holes.
 use Rattle.std.proofs.Common.{◌≡◌, ◌≤◌, ◌+◌, ◌-◌, ◌++◌, map, inl, inr, ℕ, Bool, true, false, nat_eq, refl, sym, ap, ◌∙◌, subst, arith, []}
 use Rattle.std.proofs.lemmas.Bool.{eqb-true, eqb-false}
-use Rattle.hir_types.specs.declared.ids.TraitId.{TraitId}
-use Rattle.hir_types.specs.declared.goal.Goal.{Goal}
+use Rattle.goal_select.specs.Words.{TraitId, Goal, TraitRef, Term, apply, Solves, solves_left, State, bindings, Meets, Grew, RawFacts, Fill, IsRead, IsFilling, Aliases, ReadsAs, Kind, implements, projects, Asked, Rule, System, asked_at, key, IsKnown, is_among, OneIf, Each, Verdicts, Shadows, ShadowsNot, answers, known_below, Choice, IsTraitKind, IsDeep, IsOnlySource, SizeIsBy, Selects, concrete_read, trait_goal, IsSource, filled_goal, IsUnshadowed, MayHaveSource}
 use Rattle.hir_types.specs.declared.goal.Goal.TheVariants as goal
-use Rattle.hir_types.specs.declared.ty.TraitRef.{TraitRef}
-use Rattle.hir_types.specs.Terms.{Term, apply}
-use Rattle.infer_table.specs.Solutions.{log_of, Solves}
-use Rattle.infer_table.specs.LogLemmas.{solves_left}
-use Rattle.infer_table.specs.Table.{State, bindings, Meets, Grew}
-use Rattle.infer_table.proofs.BindingLaws.{log_of_append}
-use Rattle.hir_raw.specs.declared.raw.RawFacts.{RawFacts}
-use Rattle.goal_answers.specs.Reading.{Fill, IsRead, IsFilling, Aliases, ReadsAs}
-use Rattle.goal_answers.specs.Goals.{Kind, implements, projects, Asked, Rule, System, asked_at, key, IsKnown, is_among, OneIf, Each, Verdicts}
-use Rattle.goal_answers.specs.Answers.{Shadows, ShadowsNot, answers}
-use Rattle.goal_answers.specs.Steps.{known_below}
-use Rattle.goal_answers.specs.Selecting.{Choice, IsTraitKind, IsDeep, IsOnlySource, SizeIsBy, Selects}
-use Rattle.goal_answers.proofs.Lists.{each_map}
-use Rattle.goal_answers.proofs.Readings.{AliasWithin, read_filled, read_reads, reads_within}
-use Rattle.goal_answers.proofs.Filled.{answers_stay, shadows_not_filled}
-use Rattle.goal_answers.proofs.Deeper.{IsWithin, deeper}
-use Rattle.goal_answers.proofs.One.{key_tells, not_refuted, answers_sound, answers_are_one}
-use Rattle.goal_answers.proofs.Levels.{IsLevel, level}
-use Rattle.goal_terms.specs.Types.{concrete_read}
-use Rattle.goal_facts.specs.Goals.{trait_goal}
-use Rattle.goal_facts.specs.Proofs.{IsSource, filled_goal, IsUnshadowed, MayHaveSource}
-use Rattle.goal_select.specs.declared.select.Selected.{Selected}
-use Rattle.goal_select.specs.Steps.{known_goal, IsRightSource}
+use Rattle.goal_select.specs.Words.infer_table.Solutions.{log_of}
+use Rattle.goal_select.proofs.Words.{log_of_append, each_map, AliasWithin, read_filled, read_reads, reads_within, answers_stay, shadows_not_filled, IsWithin, deeper, key_tells, not_refuted, answers_sound, answers_are_one, IsLevel, level}
+use Rattle.goal_select.specs.Own.{Selected, known_goal, IsRightSource}
 use Rattle.goal_select.proofs.Known.{known_filled}
 
 -- ---- kinds

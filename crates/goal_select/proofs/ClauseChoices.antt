@@ -1,30 +1,11 @@
 -- A goal that is selected by a clause.
 use Rattle.std.proofs.Common.{◌≡◌, ◌<◌, ◌≤◌, ◌⊎◌, inl, inr, ℕ, Bool, true, false, [], length, map, slice_get, Some, sym, ap, ◌∙◌, subst}
 use Rattle.std.proofs.lemmas.Option.{slice_get_within}
-use Rattle.hir_types.specs.declared.ids.GenericDefId.{GenericDefId}
-use Rattle.hir_types.specs.declared.goal.Goal.{Goal}
+use Rattle.goal_select.specs.Words.{GenericDefId, Goal, TraitRef, Term, hole, apply, RawFacts, resolved, Triangular, apply_agree, State, Meets, CanBeEqual, AreUnified, Fill, IsFilling, MayRead, Aliases, ReadsAs, Asked, Rule, System, asked_at, is_among, OneIf, Each, Proves, RuleIsRefuted, answers, known_below, by_clause, IsConcrete, IsTraitKind, IsOnlySource, SizeIsBy, IsDeep, Selects, concrete_plain, concrete_read, trait_goal, asked_goal, ClausesAre, filled_goal, IsSource}
 use Rattle.hir_types.specs.declared.goal.Goal.TheVariants as goal
-use Rattle.hir_types.specs.declared.ty.TraitRef.{TraitRef}
-use Rattle.hir_types.specs.Terms.{Term, hole, apply}
-use Rattle.hir_raw.specs.declared.raw.RawFacts.{RawFacts}
-use Rattle.infer_table.specs.Solutions.{resolved, Triangular}
-use Rattle.infer_table.specs.TermLemmas.{apply_agree}
-use Rattle.infer_table.specs.Table.{State, Meets, CanBeEqual, AreUnified}
-use Rattle.goal_answers.specs.Reading.{Fill, IsFilling, MayRead, Aliases, ReadsAs}
-use Rattle.goal_answers.specs.Goals.{Asked, Rule, System, asked_at, is_among, OneIf, Each}
-use Rattle.goal_answers.specs.Answers.{Proves, RuleIsRefuted, answers}
-use Rattle.goal_answers.specs.Steps.{known_below}
-use Rattle.goal_answers.specs.Selecting.{by_clause, IsConcrete, IsTraitKind, IsOnlySource, SizeIsBy, IsDeep, Selects}
-use Rattle.goal_answers.proofs.Readings.{apply_hole, hole_filling, read_reads, reads_filled, reads_within, reads_agree, reads_may, may_here}
-use Rattle.goal_answers.proofs.Filled.{answers_stay}
-use Rattle.goal_terms.specs.Types.{concrete_plain, concrete_read}
+use Rattle.goal_select.proofs.Words.{apply_hole, hole_filling, read_reads, reads_filled, reads_within, reads_agree, reads_may, may_here, answers_stay, entry_at}
 use Rattle.goal_facts.specs.declared.proof.ProofSource.TheVariants as source
-use Rattle.goal_facts.specs.Goals.{trait_goal, asked_goal}
-use Rattle.goal_facts.specs.Systems.{ClausesAre}
-use Rattle.goal_facts.specs.Proofs.{filled_goal, IsSource}
-use Rattle.goal_facts.proofs.Following.{entry_at}
-use Rattle.goal_select.specs.declared.select.Selected.{Selected}
-use Rattle.goal_select.specs.Steps.{known_goal, goal_type, GoalIsOf, HasHeadsOf, HasHeadsIfConcrete, IsSelected}
+use Rattle.goal_select.specs.Own.{Selected, known_goal, goal_type, GoalIsOf, HasHeadsOf, HasHeadsIfConcrete, IsSelected}
 use Rattle.goal_select.proofs.Known.{log, known_stays}
 use Rattle.goal_select.proofs.Uniting.{united}
 use Rattle.goal_select.proofs.Heads.{known_heads, heads_united}

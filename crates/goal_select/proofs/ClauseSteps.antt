@@ -1,18 +1,8 @@
 -- A goal that is selected by a clause.
 use Rattle.std.proofs.Common.{◌≡◌, sym, ap, ◌∙◌, subst}
-use Rattle.hir_types.specs.declared.ty.TraitRef.{TraitRef}
-use Rattle.hir_types.specs.Terms.{Term, apply, occurs}
-use Rattle.infer_table.specs.Solutions.{resolved, Respects, Triangular}
-use Rattle.infer_table.specs.LogLemmas.{solution, solution_apply, solution_solves, solution_respects, solves_after, resolved_fixed}
-use Rattle.infer_table.specs.TermLemmas.{apply_apply, is_int_apply}
-use Rattle.infer_table.specs.Opened.{IsReadAs}
+use Rattle.goal_select.specs.Words.{TraitRef, Term, apply, occurs, resolved, Respects, Triangular, solution, solution_apply, solution_solves, solution_respects, solves_after, resolved_fixed, apply_apply, is_int_apply, IsReadAs, State, Meets, CanBeEqual, Fill, IsFilling, MayRead, concrete_plain, IsConcrete, trait_goal}
 use Rattle.std.proofs.lemmas.Bool.{false_from_ne_true}
-use Rattle.infer_table.specs.Table.{State, Meets, CanBeEqual}
-use Rattle.goal_answers.specs.Reading.{Fill, IsFilling, MayRead}
-use Rattle.goal_terms.specs.Types.{concrete_plain}
-use Rattle.goal_answers.specs.Selecting.{IsConcrete}
-use Rattle.goal_facts.specs.Goals.{trait_goal}
-use Rattle.goal_select.specs.Steps.{goal_type}
+use Rattle.goal_select.specs.Own.{goal_type}
 use Rattle.goal_select.proofs.Known.{log}
 use Rattle.goal_select.proofs.Uniting.{may_be_read, plain_read, can_be_equal}
 use Rattle.goal_select.proofs.Clauses.{HasNoHoles}

@@ -2,28 +2,13 @@
 use Rattle.std.proofs.Common.{◌≡◌, inl, inr, ℕ, zero, suc, true, List, [], map, slice_get, Some, refl, sym, ap, ◌∙◌, subst, true≢false}
 use Rattle.std.specs.List.{range_with_len}
 use Rattle.std.proofs.lemmas.Bool.{or_cases, or_left, or_right}
-use Rattle.hir_types.specs.declared.ids.GenericDefId.{GenericDefId}
-use Rattle.hir_types.specs.declared.head.Hole.{Hole}
+use Rattle.goal_select.specs.Words.{GenericDefId, Hole, Assignment, with_holes, arg_replaced, args_replaced, map_twice, replaced_param, arg_replaced_type, Term, hole, leaf, pair, apply, occurs, hole_number, chain, arg_term, terms_of, term_error, RawFacts, generic_params, hole_eq_true, hole_eq_same, pair_left, pair_right, Fill, Asked, Rule, IsNth, own_params, goal_at, own_clause, trait_holes, IsStated, IsSuper, fact, ClausesAre}
 use Rattle.hir_types.specs.declared.head.Hole.TheVariants as hole_of
 use Rattle.hir_types.specs.declared.ty.Const.TheVariants as const
 use Rattle.hir_types.specs.declared.ty.Ty.TheVariants as ty
 use Rattle.hir_types.specs.declared.ty.GenericArg.TheVariants as arg
-use Rattle.hir_types.specs.Subst.{Assignment, with_holes, arg_replaced, args_replaced}
-use Rattle.hir_types.specs.Folds.{map_twice}
-use Rattle.hir_types.specs.Replacements.{replaced_param, arg_replaced_type}
-use Rattle.hir_types.specs.Terms.{Term, hole, leaf, pair, apply, occurs, hole_number, chain, arg_term, terms_of}
-use Rattle.hir_types.specs.TermLaws.{term_error}
-use Rattle.hir_raw.specs.declared.raw.RawFacts.{RawFacts}
-use Rattle.hir_raw.specs.Scope.{generic_params}
-use Rattle.infer_table.specs.TermLemmas.{hole_eq_true, hole_eq_same, pair_left, pair_right}
-use Rattle.goal_answers.specs.Reading.{Fill}
-use Rattle.goal_answers.specs.Goals.{Asked, Rule}
-use Rattle.goal_answers.specs.Rows.{IsNth}
-use Rattle.goal_facts.specs.Arguments.{own_params, goal_at}
-use Rattle.goal_facts.specs.Environment.{own_clause, trait_holes, IsStated, IsSuper, Follows}
-use Rattle.goal_facts.specs.Systems.{fact, ClausesAre}
-use Rattle.goal_facts.proofs.Adding.{get_in_map}
-use Rattle.goal_facts.proofs.FreshGoals.{goal_under}
+use Rattle.goal_facts.specs.Environment.{Follows}
+use Rattle.goal_select.proofs.Words.{get_in_map, goal_under}
 use Rattle.goal_select.proofs.Known.{args_folded}
 
 -- ---- terms without holes

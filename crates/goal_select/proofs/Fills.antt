@@ -2,17 +2,8 @@
 use Rattle.std.proofs.Common.{◌≡◌, ◌<◌, ◌≤◌, ◌+◌, ◌-◌, ℕ, Bool, true, false, cond, nat_lt, sym, ap, ◌∙◌, subst, arith, List, length, inl, inr, true≢false}
 use Rattle.std.proofs.lemmas.Bool.{or_cases, false_from_ne_true, lt-ltb, le-ltb}
 use Rattle.std.proofs.lemmas.Option.{slice_get_within}
-use Rattle.hir_types.specs.declared.head.Hole.{Hole}
+use Rattle.goal_select.specs.Words.{Hole, HoleKind, Term, hole, leaf, pair, apply, occurs, hole_number, IsInt, Log, Solves, Respects, Free, hole_kind, AreOf, BindsOf, binds_found, binds_of_found, solves_same, below_of, log_below_of, apply_apply, apply_agree, hole_eq_true, Fill, IsRead, IsFilling, fresh, HasHolesBelow}
 use Rattle.hir_types.specs.declared.head.Hole.TheVariants as hole_of
-use Rattle.hir_types.specs.declared.head.HoleKind.{HoleKind}
-use Rattle.hir_types.specs.Terms.{Term, hole, leaf, pair, apply, occurs, hole_number, IsInt}
-use Rattle.infer_table.specs.Solutions.{Log, Solves, Respects, Free, hole_kind, AreOf}
-use Rattle.infer_table.specs.LogLemmas.{BindsOf, binds_found, binds_of_found}
-use Rattle.infer_table.specs.OpenedLaws.{solves_same}
-use Rattle.infer_table.specs.OpenedKinds.{below_of, log_below_of}
-use Rattle.infer_table.specs.TermLemmas.{apply_apply, apply_agree, hole_eq_true}
-use Rattle.goal_answers.specs.Reading.{Fill, IsRead, IsFilling}
-use Rattle.goal_facts.specs.ImplGoals.{fresh, HasHolesBelow}
 
 -- ---- holes made for parameters
 

@@ -1,20 +1,9 @@
 -- Goals about a trait that are made equal bring no heads into the table but theirs.
 use Rattle.std.proofs.Common.{◌≡◌, suc, Bool, true, false, cond, if◌then◌else◌, IsTrue, refl, sym, ap, ap₂, ◌∙◌, subst, [], ◌∷◌}
-use Rattle.hir_types.specs.declared.goal.Goal.{Goal}
+use Rattle.goal_select.specs.Words.{Goal, Head, TraitRef, Term, hole, leaf, pair, apply, solution, solution_apply, IsPlain, Shape, TermRole, whole, part, rest, width, IsMadeOf, AreMadeOf, BindsOnly, NoMark, NoAlias, width_apply, made_of_apply, made_of_within, made_of_resolved, plain_of, meets_before, Log, Solves, resolved, State, resolved_term, AreUnified, Fill, IsConcrete, IsTraitKind, trait_goal, asked_goal}
 use Rattle.hir_types.specs.declared.goal.Goal.TheVariants as goal
-use Rattle.hir_types.specs.declared.head.Head.{Head}
 use Rattle.hir_types.specs.declared.head.Head.TheVariants as head
-use Rattle.hir_types.specs.declared.ty.TraitRef.{TraitRef}
-use Rattle.hir_types.specs.Terms.{Term, hole, leaf, pair, apply}
-use Rattle.infer_table.specs.LogLemmas.{solution, solution_apply}
-use Rattle.infer_table.specs.Opened.{IsPlain}
-use Rattle.infer_table.specs.Preserved.{Shape, TermRole, whole, part, rest, width, IsMadeOf, AreMadeOf, BindsOnly, NoMark, NoAlias, width_apply, made_of_apply, made_of_within, made_of_resolved, plain_of, meets_before}
-use Rattle.infer_table.specs.Solutions.{Log, Solves, resolved}
-use Rattle.infer_table.specs.Table.{State, resolved_term, AreUnified}
-use Rattle.goal_answers.specs.Reading.{Fill}
-use Rattle.goal_answers.specs.Selecting.{IsConcrete, IsTraitKind}
-use Rattle.goal_facts.specs.Goals.{trait_goal, asked_goal}
-use Rattle.goal_select.specs.Steps.{known_goal, goal_type, HasHeadsOf, HasHeadsIfConcrete}
+use Rattle.goal_select.specs.Own.{known_goal, goal_type, HasHeadsOf, HasHeadsIfConcrete}
 use Rattle.goal_select.proofs.Known.{log, goal_type_resolved, known_kind, known_parts}
 use Rattle.goal_select.proofs.Uniting.{united_by, unites_by}
 

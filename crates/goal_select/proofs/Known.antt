@@ -1,31 +1,12 @@
 -- Goals with what is known of their holes.
 use Rattle.std.proofs.Common.{◌≡◌, sym, ap, ◌∙◌, subst, map, List}
-use Rattle.hir_types.specs.declared.ids.AdtId.{AdtId}
-use Rattle.hir_types.specs.declared.goal.Goal.{Goal}
+use Rattle.goal_select.specs.Words.{AdtId, Goal, HoleKind, GenericArg, TraitRef, out-TraitRef, goal_replaced, Assignment, with_holes, args_replaced, trait_replaced, replaced_adt, trait_replaced_is, Term, leaf, pair, chain, apply, term, arg_term, terms_of, term_folded, term_adt, Binding, Log, resolved, Triangular, AreOf, solution, solution_apply, resolved_apply, resolved_leaf, resolved_pair, resolved_twice, are_of_leaf, are_of_pair, apply_agree, pair_right, resolution, resolution_terms, resolution_term, AllOf, State, bindings, resolved_term, Meets, Fill, Asked, implements, projects, asked_at, trait_goal, asked_goal, filled_goal}
 use Rattle.hir_types.specs.declared.goal.Goal.TheVariants as goal
 use Rattle.hir_types.specs.declared.head.Head.TheVariants as head
-use Rattle.hir_types.specs.declared.head.HoleKind.{HoleKind}
-use Rattle.hir_types.specs.declared.ty.GenericArg.{GenericArg}
-use Rattle.hir_types.specs.declared.ty.TraitRef.{TraitRef, out-TraitRef}
 use Rattle.hir_types.specs.declared.ty.Ty.TheVariants as ty
-use Rattle.hir_types.specs.Goals.{goal_replaced}
-use Rattle.hir_types.specs.Subst.{Assignment, with_holes, args_replaced, trait_replaced}
-use Rattle.hir_types.specs.Replacements.{replaced_adt, trait_replaced_is}
-use Rattle.hir_types.specs.Terms.{Term, leaf, pair, chain, apply, term, arg_term, terms_of}
-use Rattle.hir_types.specs.TermLaws.{term_folded, term_adt}
-use Rattle.infer_table.specs.declared.binding.Binding.{Binding}
-use Rattle.infer_table.specs.Solutions.{Log, resolved, log_of, Triangular, AreOf}
-use Rattle.infer_table.specs.LogLemmas.{solution, solution_apply, resolved_apply, resolved_leaf, resolved_pair, resolved_twice, are_of_leaf, are_of_pair}
-use Rattle.infer_table.specs.TermLemmas.{apply_agree, pair_right}
-use Rattle.infer_table.specs.Resolution.{resolution, resolution_terms, resolution_term}
-use Rattle.infer_table.specs.Bindings.{AllOf}
-use Rattle.infer_table.specs.Table.{State, bindings, resolved_term, Meets}
-use Rattle.infer_table.proofs.BindingLaws.{resolved_made}
-use Rattle.goal_answers.specs.Reading.{Fill}
-use Rattle.goal_answers.specs.Goals.{Asked, implements, projects, asked_at}
-use Rattle.goal_facts.specs.Goals.{trait_goal, asked_goal}
-use Rattle.goal_facts.specs.Proofs.{filled_goal}
-use Rattle.goal_select.specs.Steps.{known_goal, GoalIsOf, goal_type}
+use Rattle.goal_select.specs.Words.infer_table.Solutions.{log_of}
+use Rattle.goal_select.proofs.Words.{resolved_made}
+use Rattle.goal_select.specs.Own.{known_goal, GoalIsOf, goal_type}
 
 -- ---- the arguments of a trait as a type
 

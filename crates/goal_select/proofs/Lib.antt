@@ -16,3 +16,4 @@ pub mod RuleSteps
 pub mod RuleChoices
 pub mod RuleSelected
 pub mod RuleProofs
+pub mod Words

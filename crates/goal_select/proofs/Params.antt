@@ -2,25 +2,13 @@
 use Rattle.std.proofs.Common.{◌≡◌, ◌<◌, ◌+◌, ◌++◌, ℕ, zero, suc, refl, sym, ap, ◌∙◌, subst, arith, List, [], ◌∷◌, length, map, slice_get, Some, append_assoc, append-nil}
 use Rattle.std.specs.List.{range_with_len}
 use Rattle.std.proofs.lemmas.Bool.{or_left, or_right}
-use Rattle.hir_types.specs.declared.head.Hole.{Hole}
+use Rattle.goal_select.specs.Words.{Hole, HoleKind, Term, hole, leaf, pair, apply, occurs, term_var, AreOf, are_of_hole, are_of_leaf, are_of_pair, apply_apply, apply_agree, hole_eq_same, State, with_new_hole, Grew, Fill, IsConcrete, fresh, holes_from, HasHolesBelow, arg_at, args_fill}
 use Rattle.hir_types.specs.declared.head.Hole.TheVariants as hole_of
-use Rattle.hir_types.specs.declared.head.HoleKind.{HoleKind}
 use Rattle.hir_types.specs.declared.head.HoleKind.TheVariants as kind
 use Rattle.hir_types.specs.declared.ty.Ty.TheVariants as ty
 use Rattle.hir_types.specs.declared.ty.GenericArg.TheVariants as arg
-use Rattle.hir_types.specs.Terms.{Term, hole, leaf, pair, apply, occurs}
-use Rattle.hir_types.specs.TermLaws.{term_var}
-use Rattle.infer_table.specs.Solutions.{AreOf}
-use Rattle.infer_table.specs.LogLemmas.{are_of_hole, are_of_leaf, are_of_pair}
-use Rattle.infer_table.specs.TermLemmas.{apply_apply, apply_agree, hole_eq_same}
-use Rattle.infer_table.specs.Table.{State, with_new_hole, Grew}
-use Rattle.infer_table.proofs.UndoLaws.{front_itself}
-use Rattle.goal_answers.specs.Reading.{Fill}
-use Rattle.goal_answers.specs.Selecting.{IsConcrete}
-use Rattle.goal_facts.specs.ImplGoals.{fresh, holes_from, HasHolesBelow}
-use Rattle.goal_facts.specs.Proofs.{arg_at, args_fill}
-use Rattle.goal_facts.proofs.Arguing.{counted_more}
-use Rattle.goal_select.specs.Steps.{with_type_holes}
+use Rattle.goal_select.proofs.Words.{front_itself, counted_more}
+use Rattle.goal_select.specs.Own.{with_type_holes}
 
 -- ---- lists of numbers
 

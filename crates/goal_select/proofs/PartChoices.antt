@@ -1,27 +1,10 @@
 -- A goal that is selected by the parts of its self type, or by its size.
 use Rattle.std.proofs.Common.{◌≡◌, ◌≤◌, inl, inr, ℕ, suc, Bool, true, false, refl, sym, ap, ◌∙◌, subst, List, [], ◌∷◌, map}
-use Rattle.hir_types.specs.declared.goal.Goal.{Goal}
+use Rattle.goal_select.specs.Words.{Goal, TraitRef, Term, apply, RawFacts, AllOf, State, bindings, Fill, Kind, Asked, System, asked_at, only, is_among, OneIf, Each, types_of, EachType, Copied, CopyYes, ShadowsNot, answers, known_below, HasProof, Says, Choice, by_parts, by_size, CopiesParts, IsOnlySource, SizeIsBy, IsDeep, Selects, trait_goal, asked_goal, filled_goal, IsSource}
 use Rattle.hir_types.specs.declared.goal.Goal.TheVariants as goal
-use Rattle.hir_types.specs.declared.ty.TraitRef.{TraitRef}
-use Rattle.hir_types.specs.Terms.{Term, apply}
-use Rattle.hir_raw.specs.declared.raw.RawFacts.{RawFacts}
-use Rattle.infer_table.specs.Bindings.{AllOf}
-use Rattle.infer_table.specs.Table.{State, bindings}
-use Rattle.infer_table.proofs.UndoLaws.{grew_itself}
-use Rattle.goal_answers.specs.Reading.{Fill}
-use Rattle.goal_answers.specs.Goals.{Kind, Asked, System, asked_at, only, is_among, OneIf, Each}
-use Rattle.goal_answers.specs.Rows.{types_of, EachType, Copied, CopyYes}
-use Rattle.goal_answers.specs.Answers.{ShadowsNot, answers}
-use Rattle.goal_answers.specs.Steps.{known_below}
-use Rattle.goal_answers.specs.Proofs.{HasProof, Says}
-use Rattle.goal_answers.specs.Selecting.{Choice, by_parts, by_size, CopiesParts, IsOnlySource, SizeIsBy, IsDeep, Selects}
-use Rattle.goal_answers.proofs.Filled.{CopyYesBy}
-use Rattle.goal_answers.proofs.Sole.{selected_is_the_source}
+use Rattle.goal_select.proofs.Words.{grew_itself, CopyYesBy, selected_is_the_source}
 use Rattle.goal_facts.specs.declared.proof.ProofSource.TheVariants as source
-use Rattle.goal_facts.specs.Goals.{trait_goal, asked_goal}
-use Rattle.goal_facts.specs.Proofs.{filled_goal, IsSource}
-use Rattle.goal_select.specs.declared.select.Selected.{Selected}
-use Rattle.goal_select.specs.Steps.{known_goal, GoalIsOf, self_part_goals, HasHeadsIfConcrete, LosesNothing, IsSelected}
+use Rattle.goal_select.specs.Own.{Selected, known_goal, GoalIsOf, self_part_goals, HasHeadsIfConcrete, LosesNothing, IsSelected}
 use Rattle.goal_select.proofs.Known.{known_of, known_filled}
 use Rattle.goal_select.proofs.Heads.{known_heads}
 use Rattle.goal_select.proofs.SourceHeads.{part_heads}

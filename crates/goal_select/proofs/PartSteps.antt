@@ -1,28 +1,11 @@
 -- A goal that is selected by the parts of its self type.
 use Rattle.std.proofs.Common.{◌≡◌, refl, sym, ap, ap₂, ◌∙◌, subst, List, [], ◌∷◌, map, Some, Option, None, slice_get}
-use Rattle.hir_types.specs.declared.ids.TraitId.{TraitId}
+use Rattle.goal_select.specs.Words.{TraitId, HoleKind, AliasBound, Const, GenericArg, TraitRef, out-TraitRef, Ty, Ty-F, out-Ty, roll-out-Ty, in_ty, Term, hole, leaf, pair, chain, apply, type_part, const_term, const_part, arg_term, ty_step, term, terms, term_at, arg_term_type, arg_term_const, AreOf, are_of_leaf, are_of_pair, are_of_parts, Fill, Kind, implements, Asked, System, IsKnown, self_type, only, Each, with_part, types_of, with_parts, copied, CopiesParts, trait_goal, asked_goal, filled_goal}
 use Rattle.hir_types.specs.declared.head.Head.TheVariants as head
-use Rattle.hir_types.specs.declared.head.HoleKind.{HoleKind}
-use Rattle.hir_types.specs.declared.ty.AliasBound.{AliasBound}
-use Rattle.hir_types.specs.declared.ty.Const.{Const}
 use Rattle.hir_types.specs.declared.ty.Const.TheVariants as const
-use Rattle.hir_types.specs.declared.ty.GenericArg.{GenericArg}
 use Rattle.hir_types.specs.declared.ty.GenericArg.TheVariants as arg
 use Rattle.hir_types.specs.declared.ty.Mutability.TheVariants as mutability
-use Rattle.hir_types.specs.declared.ty.TraitRef.{TraitRef, out-TraitRef}
-use Rattle.hir_types.specs.declared.ty.Ty.{Ty, Ty-F, out-Ty, roll-out-Ty}
-use Rattle.hir_types.specs.Folds.{in_ty}
-use Rattle.hir_types.specs.Terms.{Term, hole, leaf, pair, chain, apply, type_part, const_term, const_part, arg_term, ty_step, term}
-use Rattle.hir_types.specs.TermLaws.{terms, term_at, arg_term_type, arg_term_const}
-use Rattle.infer_table.specs.Solutions.{AreOf}
-use Rattle.infer_table.specs.LogLemmas.{are_of_leaf, are_of_pair, are_of_parts}
-use Rattle.goal_answers.specs.Reading.{Fill}
-use Rattle.goal_answers.specs.Goals.{Kind, implements, Asked, System, IsKnown, self_type, only, Each}
-use Rattle.goal_answers.specs.Rows.{with_part, types_of, with_parts, copied}
-use Rattle.goal_answers.specs.Selecting.{CopiesParts}
-use Rattle.goal_facts.specs.Goals.{trait_goal, asked_goal}
-use Rattle.goal_facts.specs.Proofs.{filled_goal}
-use Rattle.goal_select.specs.Steps.{only_goal, part_types, goals_of_first, self_part_goals}
+use Rattle.goal_select.specs.Own.{only_goal, part_types, goals_of_first, self_part_goals}
 
 -- ---- the parts of a type
 

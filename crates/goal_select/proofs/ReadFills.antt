@@ -1,16 +1,9 @@
 -- What stands for the holes of a rule, read.
 use Rattle.std.proofs.Common.{◌≡◌, ◌⊎◌, inl, inr, ℕ, zero, suc, Bool, true, false, ◌||◌, refl, sym, subst, List, [], ◌∷◌, true≢false}
 use Rattle.std.proofs.lemmas.Bool.{or_cases, or_left, or_right}
-use Rattle.hir_types.specs.declared.head.Hole.{Hole}
-use Rattle.hir_types.specs.declared.ids.TypeAliasId.{TypeAliasId}
-use Rattle.hir_types.specs.Terms.{Term, hole, leaf, pair, apply, occurs}
-use Rattle.infer_table.specs.TermLemmas.{apply_agree, hole_eq_true, hole_eq_same}
-use Rattle.goal_answers.specs.Reading.{Fill, Role, plain, alias, role, IsRead, Aliases, ReadsAs}
-use Rattle.goal_answers.specs.Goals.{Asked, System, asked_at}
-use Rattle.goal_answers.specs.Proofs.{IsOne, HasProof}
-use Rattle.goal_answers.proofs.Readings.{ReadsBy, read_reads, reads_one}
-use Rattle.goal_answers.proofs.Levels.{AliasIsRead, reads_read}
-use Rattle.goal_terms.specs.Terms.{IsHead, HasHeads}
+use Rattle.goal_select.specs.Words.{Hole, TypeAliasId, Term, hole, leaf, pair, apply, occurs, apply_agree, hole_eq_true, hole_eq_same, Fill, plain, alias, role, IsRead, Aliases, ReadsAs, Asked, System, asked_at, IsOne, HasProof, IsHead, HasHeads}
+use Rattle.goal_select.specs.Words.goal_answers.Reading.{Role}
+use Rattle.goal_select.proofs.Words.{ReadsBy, read_reads, reads_one, AliasIsRead, reads_read}
 
 -- ---- what is read of a hole
 

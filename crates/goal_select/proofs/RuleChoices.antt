@@ -2,26 +2,10 @@
 use Rattle.std.specs.Prelude.{option_map}
 use Rattle.std.proofs.Common.{◌≡◌, ◌<◌, inl, ℕ, Bool, true, false, refl, sym, ap, ap₂, ◌∙◌, subst, List, [], ◌∷◌, length, map, slice_get, Some}
 use Rattle.hir_types.specs.declared.ids.GenericDefId.TheVariants as generic
-use Rattle.hir_types.specs.declared.head.HoleKind.{HoleKind}
-use Rattle.hir_types.specs.Folds.{map_twice}
-use Rattle.hir_types.specs.Terms.{apply}
-use Rattle.hir_raw.specs.declared.raw.RawFacts.{RawFacts}
-use Rattle.hir_raw.specs.declared.raw.RawImpl.{RawImpl}
-use Rattle.hir_raw.specs.Scope.{count_or_none, generic_params}
-use Rattle.infer_table.specs.Solutions.{AreOf}
-use Rattle.infer_table.specs.LogLemmas.{are_of_more}
-use Rattle.infer_table.specs.Table.{State, hole_count, Grew}
-use Rattle.goal_answers.specs.Reading.{Fill}
-use Rattle.goal_answers.specs.Goals.{Asked, Rule, System, asked_at, is_among, OneIf, Each}
-use Rattle.goal_answers.specs.Answers.{RuleIsRefuted, answers}
-use Rattle.goal_answers.specs.Steps.{known_below}
-use Rattle.goal_answers.proofs.Lists.{each_map}
-use Rattle.goal_answers.specs.Selecting.{by_rule, IsConcrete, IsTraitKind, IsOnlySource, SizeIsBy, IsDeep, Selects}
-use Rattle.goal_facts.specs.declared.impl_goals.RuleGoals.{RuleGoals}
-use Rattle.goal_facts.specs.Goals.{asked_goal}
-use Rattle.goal_facts.specs.ImplGoals.{fresh, holes_from, HasHolesBelow, AreGoalsOf}
-use Rattle.goal_facts.specs.Proofs.{filled_goal, args_fill}
-use Rattle.goal_select.specs.Steps.{GoalIsOf, with_type_holes}
+use Rattle.goal_select.specs.Words.{HoleKind, map_twice, apply, RawFacts, RawImpl, count_or_none, generic_params, AreOf, are_of_more, State, hole_count, Grew, Fill, Asked, Rule, System, asked_at, is_among, OneIf, Each, RuleIsRefuted, answers, known_below, by_rule, IsConcrete, IsTraitKind, IsOnlySource, SizeIsBy, IsDeep, Selects, RuleGoals, asked_goal, fresh, holes_from, HasHolesBelow, filled_goal, args_fill}
+use Rattle.goal_select.proofs.Words.{each_map}
+use Rattle.goal_facts.specs.ImplGoals.{AreGoalsOf}
+use Rattle.goal_select.specs.Own.{GoalIsOf, with_type_holes}
 use Rattle.goal_select.proofs.Choices.{same_kind}
 use Rattle.goal_select.proofs.PartChoices.{each_from_map}
 use Rattle.goal_select.proofs.Params.{params_length, at_params, with_types, fresh_of}

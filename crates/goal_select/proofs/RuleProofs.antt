@@ -2,36 +2,12 @@
 use Rattle.std.proofs.Common.{◌≡◌, inl, inr, ℕ, zero, suc, true, sym, ap, ◌∙◌, subst, List, [], ◌∷◌, map, slice_get, Option, Some, None, true≢false}
 use Rattle.std.proofs.lemmas.Bool.{or_cases, or_left, or_right}
 use Rattle.std.proofs.lemmas.Option.{same_Some}
-use Rattle.hir_types.specs.declared.ids.TypeAliasId.{TypeAliasId}
-use Rattle.hir_types.specs.declared.head.Hole.{Hole}
-use Rattle.hir_types.specs.declared.goal.Goal.{Goal}
+use Rattle.goal_select.specs.Words.{TypeAliasId, Hole, Goal, TraitRef, Term, apply, occurs, RawFacts, RawGoal, RawImpl, RawTraitRef, AllOf, Triangular, State, bindings, hole_count, Meets, AreUnified, Fill, IsRead, IsFilling, Aliases, Asked, Rule, System, asked_at, Each, IsOne, HasProof, Says, by_rule, Selects, HasHeads, concrete_read, concrete_reads, RuleGoals, goal_at, impl_holes, trait_rule, assoc_rule, rules_for, trait_goal, asked_goal, fresh, HasHolesBelow, filled_goal}
 use Rattle.hir_types.specs.declared.goal.Goal.TheVariants as goal
-use Rattle.hir_types.specs.declared.ty.TraitRef.{TraitRef}
-use Rattle.hir_types.specs.Terms.{Term, apply, occurs}
-use Rattle.hir_raw.specs.declared.raw.RawFacts.{RawFacts}
-use Rattle.hir_raw.specs.declared.raw.RawGoal.{RawGoal}
-use Rattle.hir_raw.specs.declared.raw.RawImpl.{RawImpl}
-use Rattle.hir_raw.specs.declared.raw.RawTraitRef.{RawTraitRef}
-use Rattle.infer_table.specs.Bindings.{AllOf}
-use Rattle.infer_table.specs.Solutions.{Triangular}
-use Rattle.infer_table.specs.Table.{State, bindings, hole_count, Meets, AreUnified}
-use Rattle.goal_answers.specs.Reading.{Fill, IsRead, IsFilling, Aliases}
-use Rattle.goal_answers.specs.Goals.{Asked, Rule, System, asked_at, Each}
-use Rattle.goal_answers.specs.Proofs.{IsOne, IsSource, HasProof, Says}
-use Rattle.goal_answers.specs.Selecting.{by_rule, Selects}
-use Rattle.goal_answers.proofs.Readings.{read_filled, read_reads}
-use Rattle.goal_answers.proofs.Levels.{AliasIsRead}
-use Rattle.goal_answers.proofs.Sole.{selected_is_the_source}
-use Rattle.goal_terms.specs.Terms.{HasHeads}
-use Rattle.goal_terms.specs.Types.{concrete_read, concrete_reads}
-use Rattle.goal_facts.specs.declared.impl_goals.RuleGoals.{RuleGoals}
-use Rattle.goal_facts.specs.Arguments.{goal_at}
-use Rattle.goal_facts.specs.Impls.{impl_holes, trait_rule, assoc_rule, rules_for}
-use Rattle.goal_facts.specs.Goals.{trait_goal, asked_goal}
-use Rattle.goal_facts.specs.ImplGoals.{fresh, HasHolesBelow, AreGoalsOf}
-use Rattle.goal_facts.specs.Proofs.{filled_goal}
-use Rattle.goal_facts.proofs.Adding.{get_in_map}
-use Rattle.goal_select.specs.Steps.{known_goal, goal_type, GoalIsOf, with_type_holes, IsTableOf, SameBelow, LosesNothing}
+use Rattle.goal_select.specs.Words.goal_answers.Proofs.{IsSource}
+use Rattle.goal_select.proofs.Words.{read_filled, read_reads, AliasIsRead, selected_is_the_source, get_in_map}
+use Rattle.goal_facts.specs.ImplGoals.{AreGoalsOf}
+use Rattle.goal_select.specs.Own.{known_goal, goal_type, GoalIsOf, with_type_holes, IsTableOf, SameBelow, LosesNothing}
 use Rattle.goal_select.proofs.Known.{log, known_of, known_stays, known_filled}
 use Rattle.goal_select.proofs.TypeHeads.{goal_heads}
 use Rattle.goal_select.proofs.ReadFills.{IsReadAt, read_of_read, read_of_reads, IsReadBy, proof_by, same_by, some_has, read_fill, fill_read, fill_reads}

@@ -1,26 +1,11 @@
 -- What comes of a rule that is chosen.
 use Rattle.std.proofs.Common.{◌≡◌, ◌≤◌, inl, inr, ℕ, sym, ap, ◌∙◌, subst, map, slice_get, Some}
-use Rattle.hir_types.specs.declared.goal.Goal.{Goal}
+use Rattle.goal_select.specs.Words.{Goal, TraitRef, apply, RawFacts, AllOf, Triangular, State, bindings, hole_count, Meets, CanBeEqual, AreUnified, Fill, IsFilling, Aliases, ReadsAs, Rule, System, asked_at, Each, answers, by_rule, IsTraitKind, Selects, RuleGoals, trait_goal, asked_goal, fresh, filled_goal, args_fill, IsSource}
 use Rattle.hir_types.specs.declared.goal.Goal.TheVariants as goal
-use Rattle.hir_types.specs.declared.ty.TraitRef.{TraitRef}
-use Rattle.hir_types.specs.Terms.{apply}
-use Rattle.hir_raw.specs.declared.raw.RawFacts.{RawFacts}
-use Rattle.infer_table.specs.Bindings.{AllOf}
-use Rattle.infer_table.specs.Solutions.{Triangular}
-use Rattle.infer_table.specs.Table.{State, bindings, hole_count, Meets, CanBeEqual, AreUnified}
-use Rattle.infer_table.proofs.HoleLaws.{grew_twice}
-use Rattle.goal_answers.specs.Reading.{Fill, IsFilling, Aliases, ReadsAs}
-use Rattle.goal_answers.specs.Goals.{Rule, System, asked_at, Each}
-use Rattle.goal_answers.specs.Answers.{answers}
-use Rattle.goal_answers.proofs.Lists.{each_map}
-use Rattle.goal_answers.specs.Selecting.{by_rule, IsTraitKind, Selects}
-use Rattle.goal_facts.specs.declared.impl_goals.RuleGoals.{RuleGoals}
+use Rattle.goal_select.proofs.Words.{grew_twice, each_map}
 use Rattle.goal_facts.specs.declared.proof.ProofSource.TheVariants as source
-use Rattle.goal_facts.specs.Goals.{trait_goal, asked_goal}
-use Rattle.goal_facts.specs.ImplGoals.{fresh, AreGoalsOf}
-use Rattle.goal_facts.specs.Proofs.{filled_goal, args_fill, IsSource}
-use Rattle.goal_select.specs.declared.select.Selected.{Selected}
-use Rattle.goal_select.specs.Steps.{known_goal, goal_type, GoalIsOf, with_type_holes, HasHeadsOf, HasHeadsIfConcrete, BringsNoHead, LosesNothing, IsSelected}
+use Rattle.goal_facts.specs.ImplGoals.{AreGoalsOf}
+use Rattle.goal_select.specs.Own.{Selected, known_goal, goal_type, GoalIsOf, with_type_holes, HasHeadsOf, HasHeadsIfConcrete, BringsNoHead, LosesNothing, IsSelected}
 use Rattle.goal_select.proofs.Known.{log, known_of, known_stays}
 use Rattle.goal_select.proofs.Heads.{known_heads, heads_united}
 use Rattle.goal_select.proofs.SourceHeads.{fresh_heads, fresh_if_concrete}

@@ -1,20 +1,8 @@
 -- A rule's head, at fresh holes, beside a goal of the table.
 use Rattle.std.proofs.Common.{◌≡◌, ℕ, sym, ap, ◌∙◌, subst, List, length}
-use Rattle.hir_types.specs.declared.head.HoleKind.{HoleKind}
-use Rattle.hir_types.specs.declared.ty.TraitRef.{TraitRef}
-use Rattle.hir_types.specs.Terms.{Term, apply}
-use Rattle.infer_table.specs.Bindings.{AllOf}
-use Rattle.infer_table.specs.Solutions.{resolved, Triangular, AreOf}
-use Rattle.infer_table.specs.LogLemmas.{BindsOf, resolved_fixed}
-use Rattle.infer_table.specs.Opened.{IsReadAs}
-use Rattle.infer_table.specs.Table.{State, bindings, hole_count, Meets, CanBeEqual, AreUnified}
-use Rattle.infer_table.proofs.BindingLaws.{binds_of_all}
-use Rattle.goal_answers.specs.Reading.{Fill, IsFilling, MayRead}
-use Rattle.goal_answers.specs.Selecting.{IsConcrete}
-use Rattle.goal_terms.specs.Types.{concrete_plain, may_concrete}
-use Rattle.goal_facts.specs.ImplGoals.{fresh, HasHolesBelow}
-use Rattle.goal_facts.specs.Goals.{trait_goal}
-use Rattle.goal_select.specs.Steps.{goal_type, with_type_holes}
+use Rattle.goal_select.specs.Words.{HoleKind, TraitRef, Term, apply, AllOf, resolved, Triangular, AreOf, BindsOf, resolved_fixed, IsReadAs, State, bindings, hole_count, Meets, CanBeEqual, AreUnified, Fill, IsFilling, MayRead, IsConcrete, concrete_plain, may_concrete, fresh, HasHolesBelow, trait_goal}
+use Rattle.goal_select.proofs.Words.{binds_of_all}
+use Rattle.goal_select.specs.Own.{goal_type, with_type_holes}
 use Rattle.goal_select.proofs.Known.{log}
 use Rattle.goal_select.proofs.Uniting.{plain_read, can_be_equal, united, unites}
 use Rattle.goal_select.proofs.Fills.{fresh_free, joined, joined_of, joined_solves, joined_fresh, joined_respects}

@@ -1,21 +1,9 @@
 -- What the parts of a self type and the predicates of a rule are made of.
 use Rattle.std.proofs.Common.{ℕ, sym, subst, List, [], ◌∷◌, map, slice_get}
-use Rattle.hir_types.specs.declared.ids.TraitId.{TraitId}
-use Rattle.hir_types.specs.declared.head.Hole.{Hole}
+use Rattle.goal_select.specs.Words.{TraitId, Hole, AliasBound, GenericArg, TraitRef, out-TraitRef, Ty, Ty-F, out-Ty, in_ty, Term, hole, leaf, pair, chain, apply, type_part, arg_term, ty_step, term, terms, arg_term_type, Shape, whole, part, rest, IsMadeOf, made_of_apply, Kind, implements, projects, Asked, asked_at, args_of, key, Each, trait_goal, asked_goal, fresh}
 use Rattle.hir_types.specs.declared.head.Hole.TheVariants as hole_of
-use Rattle.hir_types.specs.declared.ty.AliasBound.{AliasBound}
-use Rattle.hir_types.specs.declared.ty.GenericArg.{GenericArg}
 use Rattle.hir_types.specs.declared.ty.GenericArg.TheVariants as arg
-use Rattle.hir_types.specs.declared.ty.TraitRef.{TraitRef, out-TraitRef}
-use Rattle.hir_types.specs.declared.ty.Ty.{Ty, Ty-F, out-Ty}
-use Rattle.hir_types.specs.Folds.{in_ty}
-use Rattle.hir_types.specs.Terms.{Term, hole, leaf, pair, chain, apply, type_part, arg_term, ty_step, term}
-use Rattle.hir_types.specs.TermLaws.{terms, arg_term_type}
-use Rattle.infer_table.specs.Preserved.{Shape, whole, part, rest, IsMadeOf, made_of_apply}
-use Rattle.goal_answers.specs.Goals.{Kind, implements, projects, Asked, asked_at, args_of, key, Each}
-use Rattle.goal_facts.specs.Goals.{trait_goal, asked_goal}
-use Rattle.goal_facts.specs.ImplGoals.{fresh}
-use Rattle.goal_select.specs.Steps.{only_goal, part_types, self_part_goals, HasHeadsOf, HasHeadsIfConcrete}
+use Rattle.goal_select.specs.Own.{only_goal, part_types, self_part_goals, HasHeadsOf, HasHeadsIfConcrete}
 use Rattle.goal_select.proofs.Heads.{concrete_within}
 use Rattle.goal_select.proofs.PartSteps.{first_types, type_is, goals_are}
 

@@ -1,25 +1,11 @@
 -- What stands first in each pair is known in types, and so in the predicates of impls.
 use Rattle.std.proofs.Common.{◌≡◌, refl, sym, subst, List, [], ◌∷◌, ◌++◌, map, Some, None}
 use Rattle.std.specs.List.{flat_map}
-use Rattle.hir_types.specs.declared.ids.TraitId.{TraitId}
-use Rattle.hir_types.specs.declared.head.Head.{Head}
+use Rattle.goal_select.specs.Words.{TraitId, Head, Const, Ty, Ty-F, roll-Ty, map-Ty, ind-Ty, GenericArg, GenericArg-F, roll-GenericArg, map-GenericArg, ind-GenericArg, TraitRef, TraitRef-F, roll-TraitRef, map-TraitRef, AliasBound, AliasBound-F, roll-AliasBound, map-AliasBound, in_arg, in_ty, Term, leaf, chain, node, const_term, type_part, const_part, arg_step, auto_parts, ty_step, term, arg_term, trait_parts, bound_parts, terms, term_at, arg_term_at, trait_parts_is, bound_parts_is, RawFacts, RawGoal, Each, IsHead, HasHeads, instance, instances, goal_types, goal_at}
 use Rattle.hir_types.specs.declared.head.Head.TheVariants as head
-use Rattle.hir_types.specs.declared.ty.Const.{Const}
 use Rattle.hir_types.specs.declared.ty.Const.TheVariants as const
-use Rattle.hir_types.specs.declared.ty.Ty.{Ty, Ty-F, roll-Ty, map-Ty, ind-Ty}
-use Rattle.hir_types.specs.declared.ty.GenericArg.{GenericArg, GenericArg-F, roll-GenericArg, map-GenericArg, ind-GenericArg}
-use Rattle.hir_types.specs.declared.ty.TraitRef.{TraitRef, TraitRef-F, roll-TraitRef, map-TraitRef}
-use Rattle.hir_types.specs.declared.ty.AliasBound.{AliasBound, AliasBound-F, roll-AliasBound, map-AliasBound}
-use Rattle.hir_types.specs.Folds.{in_arg, in_ty}
-use Rattle.hir_types.specs.Terms.{Term, leaf, chain, node, const_term, type_part, const_part, arg_step, auto_parts, ty_step, term, arg_term, trait_parts, bound_parts}
-use Rattle.hir_types.specs.TermLaws.{terms, term_at, arg_term_at, trait_parts_is, bound_parts_is}
-use Rattle.hir_raw.specs.declared.raw.RawFacts.{RawFacts}
-use Rattle.hir_raw.specs.declared.raw.RawGoal.{RawGoal}
-use Rattle.hir_raw.specs.declared.raw.RawGoal.TheVariants as goal
-use Rattle.goal_answers.specs.Goals.{Each}
-use Rattle.goal_terms.specs.Terms.{IsHead, HasHeads}
-use Rattle.goal_facts.specs.Arguments.{instance, instances, goal_types, goal_at}
-use Rattle.goal_facts.proofs.Arguing.{list_is_head}
+use Rattle.goal_select.specs.Words.hir_raw.declared.raw.RawGoal.TheVariants as goal
+use Rattle.goal_select.proofs.Words.{list_is_head}
 
 -- ---- lists of parts
 

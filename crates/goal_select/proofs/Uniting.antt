@@ -1,20 +1,12 @@
 -- Goals about a trait that are made equal.
 use Rattle.std.proofs.Common.{◌≡◌, refl, sym, ap, ◌∙◌, subst, true}
 use Rattle.std.proofs.lemmas.Bool.{or_left, or_right}
-use Rattle.hir_types.specs.declared.head.Head.{Head}
+use Rattle.goal_select.specs.Words.{Head, Hole, TraitRef, Term, hole, leaf, pair, apply, occurs, resolved, Respects, Place, unknown_type, unknown_const, place, IsPlain, IsReadAs, Reads_at, opened_plain, reads_apply, hole_eq_same, pair_right, State, resolved_term, Meets, IsMostGeneral, CanBeEqual, AreUnified, Fill, plain, role, MayRead, trait_goal}
 use Rattle.hir_types.specs.declared.head.Head.TheVariants as head
-use Rattle.hir_types.specs.declared.head.Hole.{Hole}
-use Rattle.hir_types.specs.declared.ty.TraitRef.{TraitRef}
-use Rattle.hir_types.specs.Terms.{Term, hole, leaf, pair, apply, occurs}
-use Rattle.infer_table.specs.Solutions.{resolved, Respects}
-use Rattle.infer_table.specs.Opened.{Place, plain as plain_place, alias as alias_place, unknown_type, unknown_const, place, IsPlain, IsReadAs}
-use Rattle.infer_table.specs.OpenedLaws.{Reads_at, opened_plain, reads_apply}
-use Rattle.infer_table.specs.TermLemmas.{hole_eq_same, pair_right}
-use Rattle.infer_table.specs.Table.{State, resolved_term, Meets, IsMostGeneral, CanBeEqual, AreUnified}
-use Rattle.goal_answers.specs.Reading.{Fill, Role, plain, role, MayRead}
-use Rattle.goal_answers.proofs.Readings.{MayReadBy}
-use Rattle.goal_facts.specs.Goals.{trait_goal}
-use Rattle.goal_select.specs.Steps.{goal_type}
+use Rattle.goal_select.specs.Words.infer_table.Opened.{plain as plain_place, alias as alias_place}
+use Rattle.goal_select.specs.Words.goal_answers.Reading.{Role}
+use Rattle.goal_select.proofs.Words.{MayReadBy}
+use Rattle.goal_select.specs.Own.{goal_type}
 use Rattle.goal_select.proofs.Known.{adt_head, log, goal_type_term, goal_type_resolved}
 
 -- ---- readings

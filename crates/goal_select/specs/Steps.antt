@@ -1,36 +1,13 @@
 -- One step of selection: what a goal is made equal to, and what its source asks for.
 use Rattle.std.specs.Prelude.{◌≡◌, ◌<◌, ◌≤◌, ◌++◌, ℕ, suc, List, [], ◌∷◌, map, slice_get, Option, Some, None, IsTrue, ◌⊎◌}
 use Rattle.std.specs.List.{range_with_len}
-use Rattle.hir_types.specs.declared.ids.TraitId.{TraitId}
-use Rattle.hir_types.specs.declared.ids.TypeAliasId.{TypeAliasId}
-use Rattle.hir_types.specs.declared.goal.Goal.{Goal}
+use Rattle.goal_select.specs.Words.{TraitId, TypeAliasId, Goal, Head, Hole, AliasBound, GenericArg, TraitRef, out-TraitRef, Ty, Ty-F, out-Ty, goal_replaced, with_holes, Term, hole_number, RawFacts, Shape, rest, IsMadeOf, BindsOnly, NoAlias, resolution, AreOf, State, bindings, hole_count, Meets, Grew, Fill, IsRead, IsFilling, ReadsAs, Asked, Rule, System, Each, key, answers, Says, HasProof, Choice, by_clause, by_rule, by_parts, by_size, IsConcrete, IsTraitKind, IsDeep, Selects, ProofSource, trait_goal, asked_goal, filled_goal, IsSource, MayHaveSource}
 use Rattle.hir_types.specs.declared.goal.Goal.TheVariants as goal
-use Rattle.hir_types.specs.declared.head.Head.{Head}
-use Rattle.hir_types.specs.declared.head.Hole.{Hole}
 use Rattle.hir_types.specs.declared.head.HoleKind.TheVariants as kind
-use Rattle.hir_types.specs.declared.ty.AliasBound.{AliasBound}
-use Rattle.hir_types.specs.declared.ty.GenericArg.{GenericArg}
 use Rattle.hir_types.specs.declared.ty.GenericArg.TheVariants as arg
-use Rattle.hir_types.specs.declared.ty.TraitRef.{TraitRef, out-TraitRef}
-use Rattle.hir_types.specs.declared.ty.Ty.{Ty, Ty-F, out-Ty}
 use Rattle.hir_types.specs.declared.ty.Ty.TheVariants as ty
-use Rattle.hir_types.specs.Goals.{goal_replaced}
-use Rattle.hir_types.specs.Subst.{with_holes}
-use Rattle.hir_types.specs.Terms.{Term, hole_number}
-use Rattle.hir_raw.specs.declared.raw.RawFacts.{RawFacts}
-use Rattle.infer_table.specs.Preserved.{Shape, rest, IsMadeOf, BindsOnly, NoAlias}
-use Rattle.infer_table.specs.Resolution.{resolution}
-use Rattle.infer_table.specs.Solutions.{AreOf, log_of}
-use Rattle.infer_table.specs.Table.{State, bindings, hole_count, Meets, Grew}
-use Rattle.goal_answers.specs.Reading.{Fill, IsRead, IsFilling, ReadsAs}
-use Rattle.goal_answers.specs.Goals.{Asked, Rule, System, Each, key}
-use Rattle.goal_answers.specs.Answers.{answers}
-use Rattle.goal_answers.specs.Proofs.{Says, HasProof}
-use Rattle.goal_answers.specs.Selecting.{Choice, by_clause, by_rule, by_parts, by_size, IsConcrete, IsTraitKind, IsDeep, Selects}
-use Rattle.goal_facts.specs.declared.proof.ProofSource.{ProofSource}
+use Rattle.goal_select.specs.Words.infer_table.Solutions.{log_of}
 use Rattle.goal_facts.specs.declared.proof.ProofSource.TheVariants as source
-use Rattle.goal_facts.specs.Goals.{trait_goal, asked_goal}
-use Rattle.goal_facts.specs.Proofs.{filled_goal, IsSource, MayHaveSource}
 use Rattle.goal_select.specs.declared.select.Selected.{Selected}
 
 -- ---- goals and tables

@@ -1,7 +1,7 @@
 //! The parts of a type that are copied so that it is.
 ghost use Rattle.std.specs.Prelude.{◌≡◌, ◌++◌, ◌∷◌, map, IfOk, OnOk};
-ghost use Rattle.goal_facts.specs.Goals.{asked_goal};
-ghost use Rattle.goal_select.specs.Steps.{only_goal, part_goals};
+ghost use Rattle.goal_select.specs.Words.{asked_goal};
+ghost use Rattle.goal_select.specs.Own.{only_goal, part_goals};
 
 use goal_facts::{GenericArg, Goal, List, TraitId, Ty};
 use hir_types::TraitRef;

@@ -1,17 +1,14 @@
 //! The source that a goal is selected by, and what it asks for: as rust-analyzer's trait solver confirms
 //! a candidate.
 ghost use Rattle.std.specs.Prelude.{◌≡◌, ◌≤◌, [], IfOk, OnOk};
-ghost use Rattle.goal_search.specs.Sources.{system};
-ghost use Rattle.goal_answers.specs.Selecting.{by_clause, by_rule};
-ghost use Rattle.goal_search.specs.Choosing.{choice_of};
-ghost use Rattle.goal_facts.specs.Systems.{IsSystemOf};
-ghost use Rattle.goal_select.specs.Steps.{GoalIsOf, with_type_holes, IsKnownIn, IsChosen, SelectsKnown, self_part_goals, IsBuiltInBy, IsSelectedIf};
+ghost use Rattle.goal_select.specs.Words.{system, by_clause, by_rule, choice_of, IsSystemOf};
+ghost use Rattle.goal_select.specs.Own.{GoalIsOf, with_type_holes, IsKnownIn, IsChosen, SelectsKnown, self_part_goals, IsBuiltInBy, IsSelectedIf};
 
 use crate::meeting::meet;
 use crate::parts::part_goals;
+use goal_facts::infer_table::InferenceTable;
 use goal_facts::{Choice, GenericArg, Goal, ItemSources, ProofSource, Ty};
 use hir_types::TraitRef;
-use infer_table::InferenceTable;
 use std::alloc::{AllocError, Global};
 
 /// What a goal was selected by, and the goals that this asks for.

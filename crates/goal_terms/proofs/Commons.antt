@@ -2,20 +2,10 @@
 use Rattle.std.specs.Prelude.{◌≡◌, ℕ, true, false, Bool, cond, [], ◌∷◌, Option, Some, None}
 use Rattle.std.proofs.Common.{refl, sym, ap, ◌∙◌, subst}
 use Rattle.hir_types.specs.declared.head.Head.TheVariants as head
-use Rattle.hir_types.specs.declared.head.Hole.{Hole}
+use Rattle.goal_terms.specs.Words.{Hole, Term, leaf, apply, hole_eq, Log, found, resolved, Unified, NoneUnifies, apply_agree, solution, solution_apply, solution_solves, resolved_apply, IsBelow, Fill, IsRead, IsFilling, MayRead, IsApart, IsGeneral}
 use Rattle.hir_types.specs.declared.head.Hole.TheVariants as hole_of
-use Rattle.hir_types.specs.Terms.{Term, leaf, apply, hole_eq}
-use Rattle.infer_table.specs.Solutions.{Log, found, resolved, Unified, NoneUnifies}
-use Rattle.infer_table.specs.TermLemmas.{apply_agree}
-use Rattle.infer_table.specs.LogLemmas.{solution, solution_apply, solution_solves, resolved_apply}
-use Rattle.infer_table.specs.OpenedLaws.{IsBelow}
-use Rattle.goal_answers.specs.Reading.{Fill, IsRead, IsFilling, MayRead}
-use Rattle.goal_answers.specs.Answers.{IsApart, IsGeneral}
-use Rattle.goal_answers.proofs.Readings.{read_filled}
-use Rattle.goal_terms.specs.Terms.{HasHeads}
-use Rattle.goal_terms.specs.Bindings.{given, fill_of}
-use Rattle.goal_terms.specs.Unifying.{IsLog}
-use Rattle.goal_terms.specs.Opening.{AreNames, Stand, Lifted, Opened, resolved_all, IsCommon}
+use Rattle.goal_terms.proofs.Words.{read_filled}
+use Rattle.goal_terms.specs.Own.{HasHeads, given, fill_of, IsLog, AreNames, Stand, Lifted, Opened, resolved_all, IsCommon}
 use Rattle.goal_terms.proofs.Read.{read_before, solution_filling}
 use Rattle.goal_terms.proofs.HeadLaws.{heads_resolved}
 

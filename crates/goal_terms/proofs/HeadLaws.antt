@@ -1,15 +1,9 @@
 -- What stands first in pairs, and integer types, where holes are filled.
 use Rattle.std.specs.Prelude.{◌≡◌, Bool, true, false, cond, [], ◌∷◌, ◌++◌, Some}
 use Rattle.std.proofs.Common.{refl, subst}
-use Rattle.hir_types.specs.declared.head.Head.{Head}
+use Rattle.goal_terms.specs.Words.{Head, Hole, Term, hole, leaf, pair, apply, hole_eq, IsInt, Log, single, sub, resolved, found, IsNoHole, Fill, plain, role}
 use Rattle.hir_types.specs.declared.head.Head.TheVariants as head
-use Rattle.hir_types.specs.declared.head.Hole.{Hole}
-use Rattle.hir_types.specs.Terms.{Term, hole, leaf, pair, apply, hole_eq, IsInt}
-use Rattle.infer_table.specs.Solutions.{Log, single, sub, resolved, found}
-use Rattle.infer_table.specs.TermLemmas.{IsNoHole}
-use Rattle.goal_answers.specs.Reading.{Fill, plain, role}
-use Rattle.goal_terms.specs.Terms.{IsHead, HasHeads}
-use Rattle.goal_terms.specs.Unifying.{HaveHeads}
+use Rattle.goal_terms.specs.Own.{IsHead, HasHeads, HaveHeads}
 
 role_stays : (s : Fill) (a : Term) → IsHead a → role a ≡ plain → role (apply s a) ≡ plain
 role_stays s (hole k) h e = absurd h

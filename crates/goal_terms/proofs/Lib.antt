@@ -9,3 +9,4 @@ pub mod Openings
 pub mod Commons
 pub mod Sames
 pub mod ReadBack
+pub mod Words

@@ -2,11 +2,7 @@
 use Rattle.std.specs.Prelude.{◌≡◌, Bool, true, false, cond, ◌∷◌, [], ◌++◌, Option, Some, None}
 use Rattle.std.proofs.Common.{◌⊎◌, inl, inr, refl, sym, ◌∙◌, true≢false}
 use Rattle.std.proofs.lemmas.Option.{same_Some}
-use Rattle.hir_types.specs.declared.head.Hole.{Hole}
-use Rattle.hir_types.specs.Terms.{Term, hole_eq}
-use Rattle.infer_table.specs.Solutions.{Log, found}
-use Rattle.infer_table.specs.TermLemmas.{hole_eq_true, hole_eq_same}
-use Rattle.infer_table.specs.LogLemmas.{found_left}
+use Rattle.goal_terms.specs.Words.{Hole, Term, hole_eq, Log, found, hole_eq_true, hole_eq_same, found_left}
 
 none_later : (t : Term) (o : Option Term) (b : Bool) → cond b (Some t) o ≡ None → (b ≡ false) × (o ≡ None)
 none_later t o true e = cc

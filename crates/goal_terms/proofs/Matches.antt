@@ -2,15 +2,8 @@
 use Rattle.std.specs.Prelude.{◌≡◌, Bool, true, false, ◌∷◌, [], ◌++◌, Some, None, ◌↔◌, IsTrue}
 use Rattle.std.proofs.Common.{inl, inr, refl, sym, ap, ◌∙◌, subst, IfOk, Result}
 use Rattle.std.proofs.lemmas.Result.{IfOk-weaker}
-use Rattle.hir_types.specs.declared.ids.TypeAliasId.{TypeAliasId}
-use Rattle.hir_types.specs.declared.head.Head.{Head}
-use Rattle.hir_types.specs.declared.head.Hole.{Hole}
-use Rattle.hir_types.specs.Terms.{Term, hole, leaf, pair}
-use Rattle.infer_table.specs.Solutions.{Log, found}
-use Rattle.infer_table.specs.LogLemmas.{found_left}
-use Rattle.goal_answers.specs.Reading.{Fill, plain, alias, role, MayRead}
-use Rattle.goal_terms.specs.Bindings.{fill_of, given}
-use Rattle.goal_terms.specs.Matching.{Agrees, Matched, NoneMatches, MatchedIf}
+use Rattle.goal_terms.specs.Words.{TypeAliasId, Head, Hole, Term, hole, leaf, pair, Log, found, found_left, Fill, plain, alias, role, MayRead}
+use Rattle.goal_terms.specs.Own.{fill_of, given, Agrees, Matched, NoneMatches, MatchedIf}
 use Rattle.goal_terms.proofs.Parts.{may_by, may_alias, may_pair, may_parts}
 use Rattle.goal_terms.proofs.Logs.{found_last, found_more}
 

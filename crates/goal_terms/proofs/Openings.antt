@@ -2,19 +2,9 @@
 use Rattle.std.specs.Prelude.{◌≡◌, ℕ, ◌+◌, ◌≤◌, ◌<◌, Bool, true, false, cond, [], ◌∷◌, ◌++◌, Some, None}
 use Rattle.std.proofs.Common.{inl, inr, refl, sym, ap, ap₂, ◌∙◌, subst, arith, true≢false, IfOk, OnOk, Result, Ok, Err}
 use Rattle.std.proofs.lemmas.Bool.{or_cases}
-use Rattle.hir_types.specs.declared.ids.TypeAliasId.{TypeAliasId}
-use Rattle.hir_types.specs.declared.head.Head.{Head}
-use Rattle.hir_types.specs.declared.head.Hole.{Hole}
+use Rattle.goal_terms.specs.Words.{TypeAliasId, Head, Hole, Term, hole, leaf, pair, apply, occurs, hole_eq, hole_number, IsInt, Log, found, Respects, IsIntHole, hole_eq_true, hole_eq_same, hole_ne, apply_agree, found_left, IsBelow, Fill, plain, alias, role, IsRead, IsFilling, stands, MayRead}
 use Rattle.hir_types.specs.declared.head.Hole.TheVariants as hole_of
-use Rattle.hir_types.specs.Terms.{Term, hole, leaf, pair, apply, occurs, hole_eq, hole_number, IsInt}
-use Rattle.infer_table.specs.Solutions.{Log, found, Respects, IsIntHole}
-use Rattle.infer_table.specs.TermLemmas.{hole_eq_true, hole_eq_same, hole_ne, apply_agree}
-use Rattle.infer_table.specs.LogLemmas.{found_left}
-use Rattle.infer_table.specs.OpenedLaws.{IsBelow}
-use Rattle.goal_answers.specs.Reading.{Fill, plain, alias, role, IsRead, IsFilling, stands, MayRead}
-use Rattle.goal_terms.specs.declared.term.Term.{Term as Owned}
-use Rattle.goal_terms.specs.Terms.{term_of, HasHeads}
-use Rattle.goal_terms.specs.Opening.{AreNames, Stand, Lifted, Opened}
+use Rattle.goal_terms.specs.Own.{Term as Owned, term_of, HasHeads, AreNames, Stand, Lifted, Opened}
 use Rattle.goal_terms.proofs.Logs.{found_last, found_more}
 use Rattle.goal_terms.proofs.Parts.{may_by, may_alias, may_pair, stands_at}
 

@@ -2,10 +2,9 @@
 use Rattle.std.specs.Prelude.{◌≡◌, Option, Some, None, option_map}
 use Rattle.std.proofs.Common.{sym, ap, ap₂, ◌∙◌, subst, IfOk, Result}
 use Rattle.std.proofs.lemmas.Result.{IfOk-weaker}
-use Rattle.hir_types.specs.Terms.{Term, pair}
-use Rattle.goal_terms.specs.declared.term.Term.{Term as Owned}
+use Rattle.goal_terms.specs.Words.{Term, pair}
+use Rattle.goal_terms.specs.Own.{Term as Owned, term_of, term_of_pair}
 use Rattle.goal_terms.specs.declared.term.Term.TheVariants as owned
-use Rattle.goal_terms.specs.Terms.{term_of, term_of_pair}
 
 pub pair_of : (t a b a' b' : Owned) → t ≡ owned.Pair a b → a' ≡ a → b' ≡ b → term_of t ≡ pair (term_of a') (term_of b')
 pair_of t a b a' b' e f g = ap term_of e ∙ term_of_pair a b ∙ ap₂ pair (ap term_of (sym f)) (ap term_of (sym g))

@@ -1,13 +1,10 @@
 -- What the parts of a term may read as.
 use Rattle.std.proofs.Common.{◌≡◌, inl, inr, refl, sym, ap, ◌∙◌, subst, true, true≢false}
 use Rattle.std.proofs.lemmas.Bool.{or_cases}
-use Rattle.hir_types.specs.declared.ids.TypeAliasId.{TypeAliasId}
-use Rattle.hir_types.specs.declared.head.Hole.{Hole}
-use Rattle.hir_types.specs.Terms.{Term, hole, leaf, pair}
-use Rattle.infer_table.specs.TermLemmas.{hole_eq_true, pair_left, pair_right}
-use Rattle.goal_answers.specs.Reading.{Fill, Role, plain, alias, role, IsRead, stands, MayRead}
-use Rattle.goal_answers.proofs.Readings.{MayReadBy, stands_by}
-use Rattle.goal_terms.specs.Terms.{HasHeads}
+use Rattle.goal_terms.specs.Words.{TypeAliasId, Hole, Term, hole, leaf, pair, hole_eq_true, pair_left, pair_right, Fill, plain, alias, role, IsRead, stands, MayRead}
+use Rattle.goal_answers.specs.Reading.{Role}
+use Rattle.goal_terms.proofs.Words.{MayReadBy, stands_by}
+use Rattle.goal_terms.specs.Own.{HasHeads}
 
 -- ---- by what the first part makes of a pair
 

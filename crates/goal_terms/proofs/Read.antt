@@ -1,13 +1,10 @@
 -- Terms without aliases, where holes are filled.
 use Rattle.std.specs.Prelude.{◌≡◌, []}
 use Rattle.std.proofs.Common.{refl, sym, ap, ap₂, ◌∙◌, subst}
-use Rattle.hir_types.specs.declared.head.Head.{Head}
+use Rattle.goal_terms.specs.Words.{Head, Term, hole, leaf, pair, apply, IsInt, Log, Triangular, Unified, solution, solution_solves, solution_respects, resolved_apply, Fill, plain, alias, role, IsReadLeaf, IsRead, IsFilling}
 use Rattle.hir_types.specs.declared.head.Head.TheVariants as head
 use Rattle.hir_types.specs.declared.head.Hole.TheVariants as hole_of
-use Rattle.hir_types.specs.Terms.{Term, hole, leaf, pair, apply, IsInt}
-use Rattle.infer_table.specs.Solutions.{Log, Triangular, Unified}
-use Rattle.infer_table.specs.LogLemmas.{solution, solution_solves, solution_respects, resolved_apply}
-use Rattle.goal_answers.specs.Reading.{Fill, Role, plain, alias, role, IsReadLeaf, IsRead, IsFilling}
+use Rattle.goal_answers.specs.Reading.{Role}
 
 pub read_before : (s : Fill) (t : Term) → IsRead (apply s t) → IsRead t
 read_before s (hole k) r = tt

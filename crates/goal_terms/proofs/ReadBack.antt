@@ -2,18 +2,11 @@
 use Rattle.std.specs.Prelude.{◌≡◌, ℕ, zero, suc, List, [], ◌∷◌, ◌++◌, Option, Some, map}
 use Rattle.std.specs.Option.{option_to_list}
 use Rattle.std.proofs.Common.{refl, sym, ap, ◌∙◌, subst, drop, append_assoc}
-use Rattle.hir_types.specs.declared.ty.Const.{Const}
-use Rattle.hir_types.specs.declared.ty.Ty.{Ty}
-use Rattle.hir_types.specs.declared.ty.GenericArg.{GenericArg, GenericArg-F, roll-GenericArg, out-GenericArg, roll-out-GenericArg}
+use Rattle.goal_terms.specs.Words.{Const, Ty, GenericArg, GenericArg-F, roll-GenericArg, out-GenericArg, roll-out-GenericArg, AliasBound, TraitRef, Term, pair, chain, term, arg_term, type_part, const_part, arg_term_type, arg_term_const, ReadPart, mark, read, type_of_term, leading_args, all_but_last, bounds_of, term_read, term_erased, const_read}
 use Rattle.hir_types.specs.declared.ty.GenericArg.TheVariants as arg
-use Rattle.hir_types.specs.declared.ty.AliasBound.{AliasBound}
-use Rattle.hir_types.specs.declared.ty.TraitRef.{TraitRef}
 use Rattle.hir_types.specs.declared.head.Head.TheVariants as head
-use Rattle.hir_types.specs.Terms.{Term, pair, chain, term, arg_term, type_part, const_part}
-use Rattle.hir_types.specs.TermLaws.{arg_term_type, arg_term_const}
-use Rattle.hir_types.specs.Faithful.{ReadPart, mark, type_of, read, type_of_term, leading_args, all_but_last, last, bounds_of, term_read, term_erased, const_read}
-use Rattle.goal_terms.specs.declared.types.TermPart.{TermPart}
-use Rattle.goal_terms.specs.Types.{parts_read, bounds_with}
+use Rattle.hir_types.specs.Faithful.{type_of, last}
+use Rattle.goal_terms.specs.Own.{TermPart, parts_read, bounds_with}
 
 -- ---- lists among the parts
 

@@ -2,19 +2,9 @@
 use Rattle.std.specs.Prelude.{◌≡◌, ℕ, ◌+◌, ◌-◌, ◌<◌, Bool, true, false, cond, [], nat_lt}
 use Rattle.std.proofs.Common.{rules, refl, sym, ap, ◌∙◌, subst, arith, IfOk, Result, MatchBool}
 use Rattle.std.proofs.lemmas.Result.{IfOk-weaker}
-use Rattle.hir_types.specs.declared.ids.TypeAliasId.{TypeAliasId}
-use Rattle.hir_types.specs.declared.head.Hole.{Hole}
+use Rattle.goal_terms.specs.Words.{TypeAliasId, Hole, Term, pair, apply, hole_number, IsInt, Log, Respects, IsIntHole, Triangular, Unified, NoneUnifies, UnifiedIf, apply_agree, apply_apply, pair_left, pair_right, solution, solution_solves, solution_respects, IsBelow, Fill, staying, projects, NeverSame, IsNeverItself}
 use Rattle.hir_types.specs.declared.head.Hole.TheVariants as hole_of
-use Rattle.hir_types.specs.Terms.{Term, pair, apply, hole_number, IsInt}
-use Rattle.infer_table.specs.Solutions.{Log, Respects, IsIntHole, Triangular, Unified, NoneUnifies, UnifiedIf}
-use Rattle.infer_table.specs.TermLemmas.{apply_agree, apply_apply, pair_left, pair_right}
-use Rattle.infer_table.specs.LogLemmas.{solution, solution_solves, solution_respects}
-use Rattle.infer_table.specs.OpenedLaws.{IsBelow}
-use Rattle.goal_answers.specs.Reading.{Fill, staying}
-use Rattle.goal_answers.specs.Goals.{projects}
-use Rattle.goal_answers.specs.Answers.{NeverSame, IsNeverItself}
-use Rattle.goal_terms.specs.Terms.{HasHeads}
-use Rattle.goal_terms.specs.Same.{moved, CanBeSame, CanBeItself}
+use Rattle.goal_terms.specs.Own.{HasHeads, moved, CanBeSame, CanBeItself}
 use Rattle.goal_terms.proofs.HeadLaws.{heads_stay}
 
 moved_head : (n : ℕ) (k : Hole) → HasHeads (moved n k)

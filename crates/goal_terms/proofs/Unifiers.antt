@@ -3,16 +3,9 @@ use Rattle.std.specs.Prelude.{◌≡◌, Bool, true, false, cond, ◌∷◌, [],
 use Rattle.std.proofs.Common.{refl, sym, ap, ◌∙◌, subst, append_assoc, append-nil, IfOk, Result}
 use Rattle.std.proofs.lemmas.Bool.{both_ways, false_from_ne_true}
 use Rattle.std.proofs.lemmas.Result.{IfOk-weaker}
-use Rattle.hir_types.specs.declared.head.Head.{Head}
-use Rattle.hir_types.specs.declared.head.Hole.{Hole}
-use Rattle.hir_types.specs.Terms.{Term, hole, leaf, pair, apply, occurs, hole_eq, IsInt}
-use Rattle.infer_table.specs.Solutions.{Log, resolved, found, binds, IsIntHole, Kept, Free, Unified, NoneUnifies, UnifiedIf}
-use Rattle.infer_table.specs.TermLemmas.{hole_eq_true, hole_eq_same, leaf_head, leaf_pair, pair_left, IsNoHole, occurs_within}
-use Rattle.infer_table.specs.LogLemmas.{found_none, none_found, resolved_free, resolved_fixed, triangular_last}
-use Rattle.infer_table.proofs.UnifyLaws.{SameUnder, unified_equal, unified_bind, unified_if_left, unified_if_put_in_right, unified_pair}
-use Rattle.goal_answers.specs.Reading.{Fill}
-use Rattle.goal_terms.specs.Terms.{HasHeads}
-use Rattle.goal_terms.specs.Unifying.{IsLog, Extends}
+use Rattle.goal_terms.specs.Words.{Head, Hole, Term, hole, leaf, pair, apply, occurs, hole_eq, IsInt, Log, resolved, found, binds, IsIntHole, Kept, Free, Unified, NoneUnifies, UnifiedIf, hole_eq_true, hole_eq_same, leaf_head, leaf_pair, pair_left, IsNoHole, occurs_within, found_none, none_found, resolved_free, resolved_fixed, triangular_last, Fill}
+use Rattle.goal_terms.proofs.Words.{SameUnder, unified_equal, unified_bind, unified_if_left, unified_if_put_in_right, unified_pair}
+use Rattle.goal_terms.specs.Own.{HasHeads, IsLog, Extends}
 use Rattle.goal_terms.proofs.HeadLaws.{heads_append, heads_resolved, int_before}
 
 -- ---- bindings that are added

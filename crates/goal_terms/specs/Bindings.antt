@@ -1,9 +1,7 @@
 -- What stands for holes, as lists of bindings.
 use Rattle.std.specs.Prelude.{List, Option, Some, None, map}
 use Rattle.hir_types.specs.declared.head.Head.TheVariants as head
-use Rattle.hir_types.specs.Terms.{Term, leaf}
-use Rattle.infer_table.specs.Solutions.{Log, found}
-use Rattle.goal_answers.specs.Reading.{Fill}
+use Rattle.goal_terms.specs.Words.{Term, leaf, Log, found, Fill}
 use Rattle.goal_terms.specs.declared.binding.Binding.{Binding}
 use Rattle.goal_terms.specs.Terms.{term_of}
 

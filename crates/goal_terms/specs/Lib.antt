@@ -5,3 +5,5 @@ pub mod Unifying
 pub mod Opening
 pub mod Same
 pub mod Types
+pub mod Words
+pub mod Own

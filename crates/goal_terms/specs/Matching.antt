@@ -1,9 +1,6 @@
 -- Matching a rule's part: its holes stand for what stands at their place, and its aliases for anything.
 use Rattle.std.specs.Prelude.{◌≡◌, Bool, true, false, Some}
-use Rattle.hir_types.specs.declared.head.Hole.{Hole}
-use Rattle.hir_types.specs.Terms.{Term}
-use Rattle.infer_table.specs.Solutions.{Log, found}
-use Rattle.goal_answers.specs.Reading.{Fill, MayRead}
+use Rattle.goal_terms.specs.Words.{Hole, Term, Log, found, Fill, MayRead}
 
 -- the fill is what the first entries say
 abbrev pub Agrees : Fill → Log → Type 0

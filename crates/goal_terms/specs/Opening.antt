@@ -1,12 +1,7 @@
 -- Parts of rules among the holes of a goal: each hole of a part as a type hole of its own, and each alias that is to be read as one more.
 use Rattle.std.specs.Prelude.{◌≡◌, ℕ, ◌≤◌, ◌<◌, true, map, Some}
-use Rattle.hir_types.specs.declared.head.Hole.{Hole}
+use Rattle.goal_terms.specs.Words.{Hole, Term, hole, apply, hole_number, Log, found, resolved, IsBelow, Fill, role, IsRead, IsFilling, stands, MayRead, IsGeneral}
 use Rattle.hir_types.specs.declared.head.Hole.TheVariants as hole_of
-use Rattle.hir_types.specs.Terms.{Term, hole, apply, hole_number}
-use Rattle.infer_table.specs.Solutions.{Log, found, resolved}
-use Rattle.infer_table.specs.OpenedLaws.{IsBelow}
-use Rattle.goal_answers.specs.Reading.{Fill, role, IsRead, IsFilling, stands, MayRead}
-use Rattle.goal_answers.specs.Answers.{IsGeneral}
 use Rattle.goal_terms.specs.Terms.{IsHead, HasHeads}
 
 -- each name is a type hole below `n`

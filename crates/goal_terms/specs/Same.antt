@@ -1,10 +1,7 @@
 -- Terms that can be the same, and projections that can be of themselves.
 use Rattle.std.specs.Prelude.{◌≡◌, ℕ, ◌+◌}
-use Rattle.hir_types.specs.declared.ids.TypeAliasId.{TypeAliasId}
+use Rattle.goal_terms.specs.Words.{TypeAliasId, Term, hole, apply, Respects, Fill, staying}
 use Rattle.hir_types.specs.declared.head.Hole.TheVariants as hole_of
-use Rattle.hir_types.specs.Terms.{Term, hole, apply}
-use Rattle.infer_table.specs.Solutions.{Respects}
-use Rattle.goal_answers.specs.Reading.{Fill, staying}
 
 -- each hole as the one of its kind that is `n` further on
 abbrev pub moved : ℕ → Fill

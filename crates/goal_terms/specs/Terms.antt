@@ -1,14 +1,12 @@
 -- Owned terms as terms.
 use Rattle.std.specs.Prelude.{◌≡◌}
 use Rattle.std.proofs.Common.{sym, ap, ◌∙◌}
-use Rattle.hir_types.specs.declared.head.Head.{Head}
-use Rattle.hir_types.specs.declared.head.Hole.{Hole}
-use Rattle.hir_types.specs.Terms.{Term, hole, leaf, pair}
+use Rattle.goal_terms.specs.Words.{Head, Hole, Term, hole, leaf, pair, plain, alias, role}
 use Rattle.goal_terms.specs.declared.term.Term.{Term as Owned, Term-F, fold-Term, fold-roll-Term}
 use Rattle.goal_terms.specs.declared.term.Term.TheVariants as owned
 use Rattle.goal_terms.specs.declared.term.Role.{Role as OwnedRole}
 use Rattle.goal_terms.specs.declared.term.Role.TheVariants as owned_role
-use Rattle.goal_answers.specs.Reading.{Role, plain, alias, role}
+use Rattle.goal_answers.specs.Reading.{Role}
 
 abbrev pub term_step : Term-F Term → Term
 term_step (Term-F.Hole k) = hole k

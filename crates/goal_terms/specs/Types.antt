@@ -2,20 +2,12 @@
 use Rattle.std.specs.Prelude.{◌≡◌, ℕ, zero, suc, true, List, [], ◌∷◌, ◌++◌, slice_get, Option, Some, None, map}
 use Rattle.std.proofs.Common.{inl, inr, refl, sym, ap, ap₂, ◌∙◌, subst, true≢false}
 use Rattle.std.proofs.lemmas.Bool.{or_cases}
-use Rattle.hir_types.specs.declared.ids.TraitId.{TraitId}
-use Rattle.hir_types.specs.declared.head.Head.{Head}
+use Rattle.goal_terms.specs.Words.{TraitId, Head, Hole, Ty, GenericArg, AliasBound, Term, hole, leaf, pair, apply, occurs, ReadPart, mark, const_of, unread, type_of_term, place, IsPlain, hole_eq_true, Fill, plain, alias, role, IsReadLeaf, IsRead, Aliases, Reads, MayRead, IsConcreteHead, IsConcrete}
 use Rattle.hir_types.specs.declared.head.Head.TheVariants as head
-use Rattle.hir_types.specs.declared.head.Hole.{Hole}
-use Rattle.hir_types.specs.declared.ty.Ty.{Ty}
-use Rattle.hir_types.specs.declared.ty.GenericArg.{GenericArg}
 use Rattle.hir_types.specs.declared.ty.GenericArg.TheVariants as arg
-use Rattle.hir_types.specs.declared.ty.AliasBound.{AliasBound}
-use Rattle.hir_types.specs.Terms.{Term, hole, leaf, pair, apply, occurs}
-use Rattle.hir_types.specs.Faithful.{ReadPart, mark, type_of, const_of, unread, type_of_term}
-use Rattle.infer_table.specs.Opened.{plain as plain_place, place, IsPlain}
-use Rattle.infer_table.specs.TermLemmas.{hole_eq_true}
-use Rattle.goal_answers.specs.Reading.{Fill, Role, plain, alias, role, IsReadLeaf, IsRead, Aliases, Reads, MayRead}
-use Rattle.goal_answers.specs.Selecting.{IsConcreteHead, IsConcrete}
+use Rattle.hir_types.specs.Faithful.{type_of}
+use Rattle.goal_terms.specs.Words.infer_table.Opened.{plain as plain_place}
+use Rattle.goal_answers.specs.Reading.{Role}
 use Rattle.goal_terms.specs.declared.types.TermPart.{TermPart}
 use Rattle.goal_terms.specs.declared.types.TermPart.TheVariants as part
 use Rattle.goal_terms.specs.Terms.{term_of}

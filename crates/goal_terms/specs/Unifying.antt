@@ -1,6 +1,6 @@
 -- Bindings that make terms equal.
 use Rattle.std.specs.Prelude.{◌≡◌, ◌++◌, [], ◌∷◌}
-use Rattle.infer_table.specs.Solutions.{Log, Triangular}
+use Rattle.goal_terms.specs.Words.{Log, Triangular}
 use Rattle.goal_terms.specs.Terms.{HasHeads}
 
 abbrev pub HaveHeads : Log → Type 0

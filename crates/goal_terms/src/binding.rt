@@ -1,9 +1,7 @@
 //! What stands for holes.
 ghost use Rattle.std.specs.Prelude.{◌≡◌, ◌∷◌, [], ◌++◌, IfOk, OnOk, OnErr, option_map};
-ghost use Rattle.hir_types.specs.Terms.{apply, occurs};
-ghost use Rattle.infer_table.specs.Solutions.{found, sub, resolved};
-ghost use Rattle.goal_terms.specs.Terms.{term_of};
-ghost use Rattle.goal_terms.specs.Bindings.{log_of, fill_of};
+ghost use Rattle.goal_terms.specs.Words.{apply, occurs, found, sub, resolved};
+ghost use Rattle.goal_terms.specs.Own.{term_of, log_of, fill_of};
 
 use crate::term::{Term, is_same_hole};
 use hir_types::{Head, Hole};

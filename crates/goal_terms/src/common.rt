@@ -1,10 +1,7 @@
 //! The most general instance that a rule's part and a term have in common.
 ghost use Rattle.std.specs.Prelude.{◌≡◌, IfOk, MatchOption};
-ghost use Rattle.goal_answers.specs.Reading.{IsRead};
-ghost use Rattle.goal_answers.specs.Answers.{IsApart};
-ghost use Rattle.goal_terms.specs.Terms.{term_of, HasHeads};
-ghost use Rattle.goal_terms.specs.Bindings.{log_of, fill_of};
-ghost use Rattle.goal_terms.specs.Opening.{resolved_all, IsCommon};
+ghost use Rattle.goal_terms.specs.Words.{IsRead, IsApart};
+ghost use Rattle.goal_terms.specs.Own.{term_of, HasHeads, log_of, fill_of, resolved_all, IsCommon};
 
 use crate::binding::{Binding, bind, resolve};
 use crate::equate::{MOST_DEPTH, make_equal};

@@ -1,8 +1,7 @@
 //! Types and lists of their arguments as terms.
 ghost use Rattle.std.specs.Prelude.{◌≡◌, [], IfOk, map};
-ghost use Rattle.hir_types.specs.Terms.{term, node, chain, const_term, const_part, type_part, arg_term};
-ghost use Rattle.hir_types.specs.Outlines.{part_term, part_terms};
-ghost use Rattle.goal_terms.specs.Terms.{term_of, IsHead, HasHeads};
+ghost use Rattle.goal_terms.specs.Words.{term, node, chain, const_term, const_part, type_part, arg_term, part_term, part_terms};
+ghost use Rattle.goal_terms.specs.Own.{term_of, IsHead, HasHeads};
 
 use crate::levels::one_level;
 use crate::term::Term;

@@ -1,12 +1,8 @@
 //! Making two terms equal, by the fewest bindings.
 ghost use Rattle.std.specs.Prelude.{◌≡◌, ◌↔◌, [], IsTrue, IfOk, None, MatchOption, option_map};
 ghost use Rattle.hir_types.specs.declared.head.Head.TheVariants as head;
-ghost use Rattle.hir_types.specs.Terms.{hole, leaf, pair, node, IsInt};
-ghost use Rattle.infer_table.specs.Solutions.{found, Free, IsIntHole, UnifiedIf};
-ghost use Rattle.infer_table.specs.TermLemmas.{IsNoHole};
-ghost use Rattle.goal_terms.specs.Terms.{term_of, HasHeads};
-ghost use Rattle.goal_terms.specs.Bindings.{log_of};
-ghost use Rattle.goal_terms.specs.Unifying.{IsLog, Extends};
+ghost use Rattle.goal_terms.specs.Words.{hole, leaf, pair, node, IsInt, found, Free, IsIntHole, UnifiedIf, IsNoHole};
+ghost use Rattle.goal_terms.specs.Own.{term_of, HasHeads, log_of, IsLog, Extends};
 
 use crate::binding::{Binding, bind, find, resolve, stands_in};
 use crate::levels::one_level;

@@ -1,10 +1,7 @@
 //! Matching a rule's part against a term.
 ghost use Rattle.std.specs.Prelude.{IfOk, MatchOption};
-ghost use Rattle.hir_types.specs.Terms.{hole};
-ghost use Rattle.goal_answers.specs.Reading.{MayRead};
-ghost use Rattle.goal_terms.specs.Terms.{term_of};
-ghost use Rattle.goal_terms.specs.Bindings.{log_of, fill_of};
-ghost use Rattle.goal_terms.specs.Matching.{MatchedIf, CannotRead};
+ghost use Rattle.goal_terms.specs.Words.{hole, MayRead};
+ghost use Rattle.goal_terms.specs.Own.{term_of, log_of, fill_of, MatchedIf, CannotRead};
 
 use crate::binding::{Binding, bind, find};
 use crate::term::{Role, Term};

@@ -1,11 +1,8 @@
 //! Parts of rules among the holes of a goal.
 ghost use Rattle.std.specs.Prelude.{◌≡◌, ◌+◌, IfOk, OnOk};
 ghost use Rattle.hir_types.specs.declared.head.Hole.TheVariants as hole_of;
-ghost use Rattle.hir_types.specs.Terms.{hole, hole_number};
-ghost use Rattle.infer_table.specs.OpenedLaws.{IsBelow};
-ghost use Rattle.goal_terms.specs.Terms.{term_of};
-ghost use Rattle.goal_terms.specs.Bindings.{log_of};
-ghost use Rattle.goal_terms.specs.Opening.{AreNames, Opened};
+ghost use Rattle.goal_terms.specs.Words.{hole, hole_number, IsBelow};
+ghost use Rattle.goal_terms.specs.Own.{term_of, log_of, AreNames, Opened};
 
 use crate::binding::{Binding, bind, find};
 use crate::term::{Role, Term};

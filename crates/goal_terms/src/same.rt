@@ -1,11 +1,7 @@
 //! Whether two terms can be the same.
 ghost use Rattle.std.specs.Prelude.{◌≡◌, ◌+◌, IfOk, MatchBool};
-ghost use Rattle.hir_types.specs.Terms.{hole, pair, apply};
-ghost use Rattle.goal_answers.specs.Reading.{staying};
-ghost use Rattle.goal_answers.specs.Goals.{projects};
-ghost use Rattle.goal_answers.specs.Answers.{NeverSame, IsNeverItself};
-ghost use Rattle.goal_terms.specs.Terms.{term_of, HasHeads};
-ghost use Rattle.goal_terms.specs.Same.{moved, CanBeSame, CanBeItself};
+ghost use Rattle.goal_terms.specs.Words.{hole, pair, apply, staying, projects, NeverSame, IsNeverItself};
+ghost use Rattle.goal_terms.specs.Own.{term_of, HasHeads, moved, CanBeSame, CanBeItself};
 
 use crate::equate::{MOST_DEPTH, make_equal};
 use crate::opening::number_above;

@@ -1,8 +1,7 @@
 //! Terms: types and lists of their arguments, as a search sees them.
 ghost use Rattle.std.specs.Prelude.{◌≡◌, ◌↔◌, IsTrue, IfOk};
-ghost use Rattle.hir_types.specs.Terms.{leaf, pair, hole_eq};
-ghost use Rattle.goal_answers.specs.Reading.{role, IsRead};
-ghost use Rattle.goal_terms.specs.Terms.{term_of, role_of, HasHeads};
+ghost use Rattle.goal_terms.specs.Words.{leaf, pair, hole_eq, role, IsRead};
+ghost use Rattle.goal_terms.specs.Own.{term_of, role_of, HasHeads};
 
 use hir_types::{Boxed, Head, Hole, TypeAliasId};
 use std::alloc::{AllocError, Global};

@@ -1,14 +1,9 @@
 //! Terms as types, and what is in them.
 ghost use Rattle.std.specs.Prelude.{◌≡◌, ◌++◌, ◌↔◌, IsTrue, IfOk, OnOk, List, map};
-ghost use Rattle.hir_types.specs.declared.ty.Ty.{Ty};
+ghost use Rattle.goal_terms.specs.Words.{Ty, GenericArg, no_label, pair, leaf, chain, term, arg_term, mark, read, read_type, read_const, read_part, type_of_hole, type_of_term, const_of_term, types, first_type, first_const, leading_args, all_but_last, principal_of, bound_before, bounds_of, autos_of, IsConcreteHead, IsConcrete};
 ghost use Rattle.hir_types.specs.declared.ty.Ty.TheVariants as ty;
-ghost use Rattle.hir_types.specs.declared.ty.GenericArg.{GenericArg};
-ghost use Rattle.hir_types.specs.Erasure.{no_label};
-ghost use Rattle.hir_types.specs.Terms.{pair, leaf, chain, term, arg_term};
-ghost use Rattle.hir_types.specs.Faithful.{mark, read, read_type, read_const, read_part, type_of_hole, type_of_term, const_of_term, types, first_type, first_const, leading_args, all_but_last, last, principal_of, bound_before, bounds_of, autos_of};
-ghost use Rattle.goal_answers.specs.Selecting.{IsConcreteHead, IsConcrete};
-ghost use Rattle.goal_terms.specs.Terms.{term_of};
-ghost use Rattle.goal_terms.specs.Types.{part_read, parts_read, leading, types_with, bounds_with, autos_with, holes_of};
+ghost use Rattle.hir_types.specs.Faithful.{last};
+ghost use Rattle.goal_terms.specs.Own.{term_of, part_read, parts_read, leading, types_with, bounds_with, autos_with, holes_of};
 
 use crate::levels::one_level;
 use crate::term::Term;

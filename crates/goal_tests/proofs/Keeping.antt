@@ -1,12 +1,6 @@
 -- What is kept of goals where the table of goals stays, or holes alone are made and bound.
 use Rattle.std.proofs.Common.{◌≡◌, sym, subst}
-use Rattle.infer_table.specs.Table.{State, Grew}
-use Rattle.infer_goals.specs.declared.obligations.Obligations.{Obligations}
-use Rattle.infer_goals.specs.declared.table.GoalTable.{GoalTable}
-use Rattle.infer_goals.specs.Below.{ItemSources, system}
-use Rattle.infer_goals.specs.Obligations.{AreKept, HasAllOpen}
-use Rattle.infer_goals.specs.Stays.{StaysButHoles, kept_still, all_still}
-use Rattle.infer_goals.specs.Undo.{KeepsGoals}
+use Rattle.goal_tests.specs.Words.{State, Grew, Obligations, GoalTable, ItemSources, system, AreKept, HasAllOpen, StaysButHoles, kept_still, all_still, KeepsGoals}
 
 pub keeps_still : (t t' : GoalTable) → KeepsGoals t → StaysButHoles t t' → Grew t.table t'.table → KeepsGoals t'
 keeps_still t t' keeps stays grew = record { kept = kept_still t t' keeps.kept stays grew; all = all_still t t' keeps.all stays grew }

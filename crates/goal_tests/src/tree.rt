@@ -1,11 +1,10 @@
 //! Goals, with what comes of them worked out by hand.
 ghost use Rattle.std.specs.Prelude.{◌≡◌, IfOk, OnOk};
-ghost use Rattle.goal_select.specs.Steps.{only_goal};
-ghost use Rattle.goal_tree.specs.Trees.{IsTree};
+ghost use Rattle.goal_tests.specs.Words.{only_goal, IsTree};
 
-use goal_facts::ProofSource;
-use goal_tree::GoalTree;
-use hir_facts::{ExprId, ExprOrPatId, GenericArg, Goal, List, TraitId, TraitRef, Ty};
+use infer_goals::goal_facts::ProofSource;
+use infer_goals::goal_tree::GoalTree;
+use infer_goals::hir_facts::{ExprId, ExprOrPatId, GenericArg, Goal, List, TraitId, TraitRef, Ty};
 use std::alloc::{AllocError, Global};
 use std::test::Fail;
 

@@ -1,13 +1,12 @@
 //! Goals that are tried: what is undone of them, and what stays.
 ghost use Rattle.std.specs.Prelude.{◌≡◌, IfOk, OnOk};
-ghost use Rattle.infer_table.specs.Table.{Grew};
-ghost use Rattle.infer_goals.specs.Undo.{GoesOn, KeepsGoals};
+ghost use Rattle.goal_tests.specs.Words.{Grew, GoesOn, KeepsGoals};
 
 use crate::given::{Items, given, plain_trait};
 use crate::tree::{NODE, implements};
-use hir_facts::{Facts, GenericDefId, List, RawLang, TraitId, Ty, UintTy};
 use infer_goals::GoalTable;
-use infer_table::{InferenceTable, NoUnifier};
+use infer_goals::hir_facts::{Facts, GenericDefId, List, RawLang, TraitId, Ty, UintTy};
+use infer_goals::infer_table::{InferenceTable, NoUnifier};
 use std::alloc::{AllocError, Global};
 use std::process::Abort;
 use std::test::Fail;

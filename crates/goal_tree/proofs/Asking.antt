@@ -1,9 +1,7 @@
 -- Obligations that are asked one after another, and what a tree keeps of them.
 use Rattle.std.proofs.Common.{◌++◌, ◌∷◌, [], List, refl, sym, ap, ◌∙◌, append_assoc, append-nil}
 use Rattle.std.proofs.lemmas.List.{map-append}
-use Rattle.goal_tree.specs.declared.obligation.Obligation.{Obligation}
-use Rattle.goal_tree.specs.declared.tree.GoalTree.{GoalTree}
-use Rattle.goal_tree.specs.Trees.{opens, IsAsked}
+use Rattle.goal_tree.specs.Own.{Obligation, GoalTree, opens, IsAsked}
 
 pub asked_none : (t : GoalTree) → IsAsked t t []
 asked_none t = record { obligations = sym (append-nil t.obligations.items); standings = sym (append-nil t.standings.items); proofs = refl }

@@ -1,10 +1,9 @@
 -- What holds of a tree holds of its copy.
 use Rattle.std.proofs.Common.{◌≡◌, ◌⊎◌, ℕ, length, sym, ap, ◌∙◌, subst}
 use Rattle.std.specs.Prelude.{Some, slice_get}
-use Rattle.goal_facts.specs.declared.proof.ProofSource.{ProofSource}
+use Rattle.goal_tree.specs.Words.{ProofSource}
 use Rattle.goal_tree.specs.declared.obligation.Standing.TheVariants as standing
-use Rattle.goal_tree.specs.declared.tree.GoalTree.{GoalTree}
-use Rattle.goal_tree.specs.Trees.{IsSelectedAt, IsProvedBy, HasSource, AreAskedBy, IsAskedBy, IsProofAt, SomeUnproved, IsTree, IsCopied}
+use Rattle.goal_tree.specs.Own.{GoalTree, IsSelectedAt, IsProvedBy, HasSource, AreAskedBy, IsAskedBy, IsProofAt, SomeUnproved, IsTree, IsCopied}
 
 module _ (t u : GoalTree) (same : IsCopied t u) where
   pub copied_source : (i m n : ℕ) (src : ProofSource) → HasSource u i src m n → HasSource t i src m n

@@ -3,14 +3,11 @@ use Rattle.std.proofs.Common.{◌≡◌, ◌⊎◌, inl, inr, ℕ, ◌+◌, ◌�
 use Rattle.std.proofs.lemmas.List.{length-map}
 use Rattle.std.specs.Prelude.{Some, None, slice_get}
 use Rattle.std.proofs.lemmas.Option.{slice_get_within}
-use Rattle.infer_table.specs.Table.{IsFront}
-use Rattle.goal_facts.specs.declared.proof.ProofSource.{ProofSource}
-use Rattle.goal_tree.specs.declared.obligation.Obligation.{Obligation}
-use Rattle.goal_tree.specs.declared.obligation.Standing.{Standing}
+use Rattle.goal_tree.specs.Words.{IsFront, ProofSource}
+use Rattle.goal_tree.specs.Own.{Obligation, Standing, GoalTree, IsOpenAt, IsSelectedAt, HasSource, AreAskedBy, IsAskedBy, AreChildren, IsProofAt, SomeUnproved, IsTreeBut, IsTree, opens, IsAsked}
 use Rattle.goal_tree.specs.declared.obligation.Standing.TheVariants as standing
-use Rattle.goal_tree.specs.declared.tree.GoalTree.{GoalTree}
-use Rattle.goal_tree.specs.Trees.{IsOpenAt, IsSelectedAt, HasSource, AreAskedBy, IsAskedBy, AreChildren, IsProofAt, SomeUnproved, IsTreeBut, IsTree, opens, IsAsked}
-use Rattle.goal_tree.proofs.Standings.{front_get, push_get, back_get, more_get, open_selected, open_proved, same_standing}
+use Rattle.goal_tree.proofs.Words.{get_left as front_get, get_more as push_get}
+use Rattle.goal_tree.proofs.Standings.{back_get, more_get, open_selected, open_proved, same_standing}
 
 -- those at `at` were open, and have no proof now; the others stay, and what comes is open
 pub record Grows (at : ℕ → Type 0) (t u : GoalTree) : Type 0 where

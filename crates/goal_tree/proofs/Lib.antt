@@ -6,3 +6,4 @@ pub mod Proving
 pub mod Right
 pub mod Selecting
 pub mod Standings
+pub mod Words

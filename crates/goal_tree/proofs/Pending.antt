@@ -2,11 +2,8 @@
 use Rattle.std.proofs.Common.{◌≡◌, ℕ, zero, suc, ◌+◌, Bool, true, false, List, [], ◌∷◌, ◌++◌, take, refl, ap, ◌∙◌, arith}
 use Rattle.std.specs.Prelude.{Some, slice_get, if◌then◌else◌}
 use Rattle.std.proofs.lemmas.Option.{same_Some}
-use Rattle.hir_types.specs.declared.ids.ExprOrPatId.{ExprOrPatId}
-use Rattle.hir_types.specs.declared.goal.Goal.{Goal}
-use Rattle.goal_tree.specs.declared.obligation.Obligation.{Obligation}
-use Rattle.goal_tree.specs.declared.obligation.Standing.{Standing}
-use Rattle.goal_tree.specs.Trees.{is_pending, pending_of}
+use Rattle.goal_tree.specs.Words.{ExprOrPatId, Goal}
+use Rattle.goal_tree.specs.Own.{Obligation, Standing, is_pending, pending_of}
 
 add_or_not : (b : Bool) (x : Goal × ExprOrPatId) (xs ys : List (Goal × ExprOrPatId)) → (if b then x ∷ (xs ++ ys) else xs ++ ys) ≡ (if b then x ∷ xs else xs) ++ ys
 add_or_not true x xs ys = refl

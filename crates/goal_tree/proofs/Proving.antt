@@ -2,15 +2,11 @@
 use Rattle.std.proofs.Common.{◌≡◌, inl, inr, ℕ, ◌+◌, ◌-◌, ◌<◌, ◌≤◌, List, [], ◌∷◌, ◌++◌, length, get_or, refl, sym, ap, ◌∙◌, subst, arith, append-nil, append_assoc, length-set}
 use Rattle.std.specs.Prelude.{Option, Some, None, slice_get}
 use Rattle.std.proofs.lemmas.Option.{same_Some, slice_get_within, slice_get-get_or}
-use Rattle.infer_table.specs.Table.{IsFront}
-use Rattle.goal_facts.specs.declared.proof.Proof.{Proof}
-use Rattle.goal_facts.specs.declared.proof.ProofSource.{ProofSource}
-use Rattle.goal_tree.specs.declared.obligation.Obligation.{Obligation}
-use Rattle.goal_tree.specs.declared.obligation.Standing.{Standing}
+use Rattle.goal_tree.specs.Words.{IsFront, Proof, ProofSource}
+use Rattle.goal_tree.specs.Own.{Obligation, Standing, GoalTree, IsOpenAt, IsProvedAt, IsSelectedAt, IsWaitingAt, IsProvedBy, HasSource, AreAskedBy, IsAskedBy, AreChildren, IsProofAt, SomeUnproved, IsTreeBut, IsTree, AreProved, IsProvedNext, IsMoreProved, IsProvedUpTo, IsLater}
 use Rattle.goal_tree.specs.declared.obligation.Standing.TheVariants as standing
-use Rattle.goal_tree.specs.declared.tree.GoalTree.{GoalTree}
-use Rattle.goal_tree.specs.Trees.{IsOpenAt, IsProvedAt, IsSelectedAt, IsWaitingAt, IsProvedBy, HasSource, AreAskedBy, IsAskedBy, AreChildren, IsProofAt, SomeUnproved, IsTreeBut, IsTree, AreProved, IsProvedNext, IsMoreProved, IsProvedUpTo, IsLater}
-use Rattle.goal_tree.proofs.Standings.{same_or_not, set_same, set_other, front_get, last_get, push_get, open_selected, selected_proved, same_standing}
+use Rattle.goal_tree.proofs.Standings.{same_or_not, set_other, open_selected, selected_proved, same_standing}
+use Rattle.goal_tree.proofs.Words.{get_set_same as set_same, get_left as front_get, get_last as last_get, get_more as push_get}
 
 -- ---- nothing, or some and then others
 

@@ -3,15 +3,10 @@ use Rattle.std.proofs.Common.{◌≡◌, inr, ℕ, zero, suc, ◌+◌, ◌<◌, 
 use Rattle.std.specs.Prelude.{Some, slice_get}
 use Rattle.std.proofs.lemmas.Option.{same_Some}
 use Rattle.std.proofs.lemmas.List.{length-map}
-use Rattle.goal_facts.specs.Below.{RawFacts, Fill, Aliases, Asked, System}
-use Rattle.infer_table.proofs.BindingLaws.{get_from_take}
-use Rattle.goal_facts.specs.declared.proof.Proof.{Proof}
-use Rattle.goal_facts.specs.Proofs.{filled_goal, IsSame, IsSource, MayHaveSource, IsProofOf, AreProofsOf, Holds, AreProofs}
-use Rattle.goal_tree.specs.declared.obligation.Obligation.{Obligation}
+use Rattle.goal_tree.specs.Words.{RawFacts, Fill, Aliases, Asked, System, Proof, filled_goal, IsSame, IsSource, MayHaveSource, IsProofOf, AreProofsOf, Holds, AreProofs}
+use Rattle.goal_tree.proofs.Words.{get_from_take}
+use Rattle.goal_tree.specs.Own.{Obligation, GoalTree, HasSource, IsTreeBut, IsProofAt, AreChildren, filled_goals, IsRight}
 use Rattle.goal_tree.specs.declared.obligation.Standing.TheVariants as standing
-use Rattle.goal_tree.specs.declared.tree.GoalTree.{GoalTree}
-use Rattle.goal_tree.specs.Trees.{HasSource, IsTreeBut, IsProofAt, AreChildren}
-use Rattle.goal_tree.specs.Right.{filled_goals, IsRight}
 use Rattle.goal_tree.proofs.Standings.{mapped_get}
 
 dropped_get : {X : Type 0} (xs : List X) (m j : ℕ) (x : X) → slice_get (drop m xs) j ≡ Some x → slice_get xs (m + j) ≡ Some x

@@ -3,15 +3,11 @@ use Rattle.std.proofs.Common.{◌≡◌, ◌⊎◌, inl, inr, ℕ, ◌+◌, ◌-
 use Rattle.std.specs.Prelude.{Some, slice_get, slice_set}
 use Rattle.std.proofs.lemmas.Option.{same_Some, slice_get_within}
 use Rattle.std.proofs.lemmas.List.{length-map}
-use Rattle.hir_types.specs.declared.ids.ExprOrPatId.{ExprOrPatId}
-use Rattle.hir_types.specs.declared.goal.Goal.{Goal}
-use Rattle.goal_facts.specs.declared.proof.ProofSource.{ProofSource}
-use Rattle.goal_tree.specs.declared.obligation.Obligation.{Obligation}
-use Rattle.goal_tree.specs.declared.obligation.Standing.{Standing}
+use Rattle.goal_tree.specs.Words.{ExprOrPatId, Goal, ProofSource}
+use Rattle.goal_tree.specs.Own.{Obligation, Standing, GoalTree, IsOpenAt, IsSelectedAt, IsWaitingAt, HasSource, AreAskedBy, IsAskedBy, IsTreeBut, IsTree, asked_by, IsAsked, IsMoreProved, IsLater, IsSelectedBy}
 use Rattle.goal_tree.specs.declared.obligation.Standing.TheVariants as standing
-use Rattle.goal_tree.specs.declared.tree.GoalTree.{GoalTree}
-use Rattle.goal_tree.specs.Trees.{IsOpenAt, IsSelectedAt, IsWaitingAt, HasSource, AreAskedBy, IsAskedBy, IsTreeBut, IsTree, asked_by, IsAsked, IsMoreProved, IsLater, IsSelectedBy}
-use Rattle.goal_tree.proofs.Standings.{same_or_not, set_same, set_other, front_get, more_get, new_get, selected_proved, same_standing}
+use Rattle.goal_tree.proofs.Standings.{same_or_not, set_other, more_get, new_get, selected_proved, same_standing}
+use Rattle.goal_tree.proofs.Words.{get_set_same as set_same, get_left as front_get}
 use Rattle.goal_tree.proofs.Growing.{Grows, asked_as_many, source_on, source_back, proved_on, grown_tree}
 use Rattle.goal_tree.proofs.Proving.{later_then}
 

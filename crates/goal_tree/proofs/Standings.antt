@@ -2,11 +2,11 @@
 use Rattle.std.proofs.Common.{◌≡◌, ◌⊎◌, inl, inr, ℕ, zero, suc, ◌+◌, ◌<◌, ◌≤◌, List, [], ◌∷◌, ◌++◌, length, map, refl, sym, ◌∙◌, arith}
 use Rattle.std.specs.Prelude.{Some, slice_get, slice_set}
 use Rattle.std.proofs.lemmas.Option.{same_Some}
-use Rattle.infer_table.proofs.BindingLaws.{get_set_other}
-use Rattle.goal_tree.specs.declared.obligation.Standing.{Standing}
+use Rattle.goal_tree.proofs.Words.{get_set_other}
+use Rattle.goal_tree.specs.Own.{Standing}
 use Rattle.goal_tree.specs.declared.obligation.Standing.TheVariants as standing
-use Rattle.goal_facts.specs.declared.proof.ProofSource.{ProofSource}
-pub use Rattle.infer_table.proofs.BindingLaws.{get_left as front_get, get_last as last_get, get_more as push_get, get_set_same as set_same}
+use Rattle.goal_tree.specs.Words.{ProofSource}
+pub use Rattle.goal_tree.proofs.Words.{get_left as front_get, get_last as last_get, get_more as push_get, get_set_same as set_same}
 
 pub same_or_not : (i j : ℕ) → (i ≡ j) ⊎ (i ≡ j → ⊥)
 same_or_not i j = grind arith

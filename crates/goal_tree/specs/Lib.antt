@@ -1,2 +1,4 @@
 pub mod Right
 pub mod Trees
+pub mod Words
+pub mod Own

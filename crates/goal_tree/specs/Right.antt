@@ -1,9 +1,6 @@
 -- Obligations that have their sources rightly.
 use Rattle.std.specs.Prelude.{◌≡◌, ℕ, List, map, take, drop, slice_get, Some}
-use Rattle.hir_types.specs.Terms.{Term}
-use Rattle.goal_facts.specs.Below.{RawFacts, Fill, Aliases, ReadsAs, Asked, System}
-use Rattle.goal_facts.specs.declared.proof.ProofSource.{ProofSource}
-use Rattle.goal_facts.specs.Proofs.{filled_goal, IsSource, MayHaveSource}
+use Rattle.goal_tree.specs.Words.{Term, RawFacts, Fill, Aliases, ReadsAs, Asked, System, ProofSource, filled_goal, IsSource, MayHaveSource}
 use Rattle.goal_tree.specs.declared.obligation.Obligation.{Obligation}
 use Rattle.goal_tree.specs.declared.tree.GoalTree.{GoalTree}
 use Rattle.goal_tree.specs.Trees.{HasSource}

@@ -1,10 +1,6 @@
 -- Goals that were asked, what each was selected by, and the proofs of those that are done.
 use Rattle.std.specs.Prelude.{◌≡◌, ◌⊎◌, ◌<◌, ◌≤◌, ◌+◌, ◌-◌, ◌++◌, ℕ, Bool, false, if◌then◌else◌, List, [], ◌∷◌, length, map, slice_get, slice_set, Option, Some, None, is_none}
-use Rattle.infer_table.specs.Table.{IsFront}
-use Rattle.hir_types.specs.declared.ids.ExprOrPatId.{ExprOrPatId}
-use Rattle.hir_types.specs.declared.goal.Goal.{Goal}
-use Rattle.goal_facts.specs.declared.proof.Proof.{Proof}
-use Rattle.goal_facts.specs.declared.proof.ProofSource.{ProofSource}
+use Rattle.goal_tree.specs.Words.{IsFront, ExprOrPatId, Goal, Proof, ProofSource}
 use Rattle.goal_tree.specs.declared.obligation.Obligation.{Obligation}
 use Rattle.goal_tree.specs.declared.obligation.Standing.{Standing}
 use Rattle.goal_tree.specs.declared.obligation.Standing.TheVariants as standing

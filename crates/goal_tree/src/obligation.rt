@@ -1,6 +1,6 @@
 //! Goals that were asked.
 ghost use Rattle.std.specs.Prelude.{◌≡◌, ◌∷◌, ◌++◌, [], IfOk, OnOk};
-ghost use Rattle.goal_tree.specs.Trees.{is_pending, pending_of};
+ghost use Rattle.goal_tree.specs.Own.{is_pending, pending_of};
 
 use goal_facts::{ExprOrPatId, Goal, ProofSource};
 use std::alloc::{AllocError, Global};

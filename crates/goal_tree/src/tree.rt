@@ -1,6 +1,6 @@
 //! Goals that were asked, with their sources and proofs.
 ghost use Rattle.std.specs.Prelude.{◌≡◌, ◌↔◌, ◌<◌, ◌≤◌, ◌+◌, ◌∷◌, [], Some, length, map, slice_get, slice_set, IsTrue, IfOk, OnOk};
-ghost use Rattle.goal_tree.specs.Trees.{IsTree, IsTreeBut, IsOpenAt, IsWaitingAt, registered, asked_by, IsAsked, AreProvedAs, IsProvedNext, IsMoreProved, IsProvedUpTo, IsSelectedBy, IsCopied, pending_of};
+ghost use Rattle.goal_tree.specs.Own.{IsTree, IsTreeBut, IsOpenAt, IsWaitingAt, registered, asked_by, IsAsked, AreProvedAs, IsProvedNext, IsMoreProved, IsProvedUpTo, IsSelectedBy, IsCopied, pending_of};
 
 use crate::obligation::{Obligation, Standing};
 use goal_facts::{ExprOrPatId, Goal, List, Proof, ProofSource};

@@ -1,13 +1,9 @@
 -- What is measured of adts, projections, parameters and holes, from what is measured of their arguments.
 use Rattle.std.specs.Prelude.{◌≡◌, ℕ, ◌+◌, List, map}
 use Rattle.std.proofs.Common.{sym, ◌∙◌, ap}
-use Rattle.hir_types.specs.declared.ids.AdtId.{AdtId}
-use Rattle.hir_types.specs.declared.ids.TypeAliasId.{TypeAliasId}
-use Rattle.hir_types.specs.declared.ty.Ty.{Ty, Ty-F, fold-roll-Ty}
+use Rattle.hir_counts.specs.Words.{AdtId, TypeAliasId, Ty, Ty-F, fold-roll-Ty, GenericArg, GenericArg-F, fold-GenericArg, fold-roll-GenericArg, measured, measured_arg, measured_step, measured_bound, measured_trait}
 use Rattle.hir_types.specs.declared.ty.Ty.TheVariants as ty
-use Rattle.hir_types.specs.declared.ty.GenericArg.{GenericArg, GenericArg-F, fold-GenericArg, fold-roll-GenericArg}
 use Rattle.hir_types.specs.declared.ty.GenericArg.TheVariants as arg
-use Rattle.hir_types.specs.Types.{measured, measured_arg, measured_step, measured_bound, measured_trait}
 
 module _ (of_list : List ℕ → ℕ) (of_two : ℕ → ℕ → ℕ) where
   abbrev measure : Ty → ℕ

@@ -1,12 +1,8 @@
 -- What fits by the numbers that were found fits.
 use Rattle.std.proofs.Common.{◌≡◌, ℕ, List, length, Bool, Option, Some, ap, ◌∙◌, subst}
 use Rattle.std.specs.Prelude.{IsTrue, slice_get, ◌↔◌}
-use Rattle.hir_types.specs.declared.ids.BodyId.{BodyId}
-use Rattle.hir_raw.specs.declared.raw.RawBody.{RawBody}
-use Rattle.hir_raw.specs.declared.raw.RawFacts.{RawFacts}
-use Rattle.hir_facts.specs.Standing.{param_bound, wrong_args, params_in, wrongs_in}
-use Rattle.hir_counts.specs.Sought.{number_in, AreMosts}
-use Rattle.hir_facts.specs.Counts.{BodyFits, MaybeBodyFits, body_at}
+use Rattle.hir_counts.specs.Words.{BodyId, RawBody, RawFacts, param_bound, wrong_args, params_in, wrongs_in, BodyFits, MaybeBodyFits, body_at}
+use Rattle.hir_counts.specs.Own.{number_in, AreMosts}
 use Rattle.hir_counts.proofs.StandingTypes.{mosts_are}
 
 -- a body that was found

@@ -5,3 +5,4 @@ pub mod Drops
 pub mod Measured
 pub mod TypeMeasures
 pub mod GoalUses
+pub mod Words

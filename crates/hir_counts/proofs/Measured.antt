@@ -2,8 +2,7 @@
 use Rattle.std.proofs.Common.{◌≡◌, ◌<◌, ◌≤◌, ◌+◌, ℕ, List, [], ◌∷◌, length, get_or, map, max, min, sum, drop, ap, arith}
 use Rattle.std.specs.Prelude.{fold}
 use Rattle.std.proofs.Math.ListN.{drop_of_length-le}
-use Rattle.hir_types.specs.declared.ids.TypeRefId.{TypeRefId}
-use Rattle.hir_types.specs.Types.{most}
+use Rattle.hir_counts.specs.Words.{TypeRefId, most}
 use Rattle.hir_counts.proofs.Drops.{drop_at}
 
 -- what remains of a greatest number

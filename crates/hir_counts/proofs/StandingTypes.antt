@@ -5,14 +5,8 @@ use Rattle.std.proofs.lemmas.List.{get_or_push, get_or_append_left, get_or_past}
 use Rattle.std.proofs.lemmas.Option.{slice_get_past}
 use Rattle.std.proofs.lemmas.Bool.{cases_lt}
 use Rattle.std.proofs.Math.Nat.{eq-or-lt_of_le}
-use Rattle.hir_types.specs.Types.{most}
-use Rattle.hir_raw.specs.declared.raw.RawType.{RawType}
-use Rattle.hir_raw.specs.WrittenTypes.{type_parts}
-use Rattle.hir_facts.specs.Entries.{AllHold}
-use Rattle.hir_facts.specs.Ids.{ChildrenBefore}
-use Rattle.hir_facts.specs.Standing.{most_by, most_within, most_in}
-use Rattle.hir_counts.specs.Sought.{number_in, AreMosts}
-use Rattle.hir_facts.specs.Most.{most_by_same, most_within_step, most_parts}
+use Rattle.hir_counts.specs.Words.{most, RawType, type_parts, AllHold, ChildrenBefore, most_by, most_within, most_in, most_by_same, most_within_step, most_parts}
+use Rattle.hir_counts.specs.Own.{number_in, AreMosts}
 
 most_past : (own : RawType → ℕ) (types : List RawType) (i : ℕ) → length types ≤ i → most_in own types i ≡ 0
 most_past own types i le = most_within_step own types i i ∙ ap (most_by own (most_within own i types)) (slice_get_past types i le)

@@ -3,19 +3,12 @@ use Rattle.std.proofs.Common.{◌≡◌, ◌<◌, ◌+◌, ℕ, zero, suc, List,
 use Rattle.std.specs.Prelude.{slice_get, slice_index}
 use Rattle.std.proofs.lemmas.List.{get_or_push, get_or_append_left}
 use Rattle.std.proofs.Math.Nat.{eq-or-lt_of_le}
-use Rattle.hir_types.specs.declared.ids.TypeRefId.{TypeRefId}
-use Rattle.hir_raw.specs.declared.raw.RawType.{RawType}
-use Rattle.hir_raw.specs.declared.raw.RawType.TheVariants as type
-use Rattle.hir_types.specs.declared.ty.Ty.{Ty}
+use Rattle.hir_counts.specs.Words.{TypeRefId, RawType, Ty, most, measured, depth, size, type_parts, lowered, lowered_by, AllHold, ChildrenBefore, lowered_parts}
+use Rattle.hir_counts.specs.Words.hir_raw.declared.raw.RawType.TheVariants as type
 use Rattle.hir_types.specs.declared.ty.GenericArg.TheVariants as arg
-use Rattle.hir_types.specs.Types.{most, measured, depth, size}
-use Rattle.hir_types.proofs.Layers.{measured_tuple, measured_bool, measured_char, measured_integer, measured_error}
+use Rattle.hir_counts.proofs.Words.{measured_tuple, measured_bool, measured_char, measured_integer, measured_error}
 use Rattle.hir_counts.proofs.AdtLayers.{measured_of_arg, measured_type_arg, measured_adt, measured_projection, measured_param, measured_hole}
-use Rattle.hir_raw.specs.WrittenTypes.{type_parts, lowered, lowered_by}
-use Rattle.hir_facts.specs.Entries.{AllHold}
-use Rattle.hir_facts.specs.Ids.{ChildrenBefore}
-use Rattle.hir_counts.specs.Measures.{measured_by, depth_by, size_by, AreMeasures}
-use Rattle.hir_facts.specs.Lowered.{lowered_parts}
+use Rattle.hir_counts.specs.Own.{measured_by, depth_by, size_by, AreMeasures}
 use Rattle.hir_counts.proofs.Measured.{sum-cons}
 
 -- a measure that reads the parts alone, and no more of each than the bound

@@ -1,3 +1,5 @@
 pub mod Measures
 pub mod Sought
 pub mod TypeUsers
+pub mod Words
+pub mod Own

@@ -1,9 +1,6 @@
 -- Measures of the written types, of each by those of its parts.
 use Rattle.std.specs.Prelude.{ℕ, ◌+◌, ◌<◌, ◌≡◌, List, length, map, sum, min, slice_index}
-use Rattle.hir_raw.specs.declared.raw.RawType.{RawType}
-use Rattle.hir_types.specs.declared.ty.Ty.{Ty}
-use Rattle.hir_types.specs.Types.{most}
-use Rattle.hir_raw.specs.WrittenTypes.{type_parts, lowered}
+use Rattle.hir_counts.specs.Words.{RawType, Ty, most, type_parts, lowered}
 
 -- what is measured of a type, where f t is measured of type t of the list
 abbrev pub measured_by : (List ℕ → ℕ) → (ℕ → ℕ) → RawType → ℕ

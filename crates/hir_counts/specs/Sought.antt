@@ -1,10 +1,8 @@
 -- What is sought in written types, and what was found.
 use Rattle.std.specs.Prelude.{ℕ, ◌<◌, ◌≡◌, List, length, slice_index}
-use Rattle.hir_raw.specs.declared.raw.RawType.{RawType}
-use Rattle.hir_raw.specs.declared.raw.RawFacts.{RawFacts}
+use Rattle.hir_counts.specs.Words.{RawType, RawFacts, most_in, param_bound, wrong_args, hole_at}
 use Rattle.hir_counts.specs.declared.standing.Sought.{Sought}
 use Rattle.hir_counts.specs.declared.standing.Sought.TheVariants as sought
-use Rattle.hir_facts.specs.Standing.{most_in, param_bound, wrong_args, hole_at}
 
 abbrev pub own_of : RawFacts → Sought → RawType → ℕ
 own_of raw sought.Params = param_bound

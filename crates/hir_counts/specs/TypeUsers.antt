@@ -1,9 +1,6 @@
 -- Who uses the written types.
 use Rattle.std.specs.Prelude.{List, length}
-use Rattle.hir_raw.specs.declared.raw.RawFacts.{RawFacts}
-use Rattle.hir_ids.specs.declared.namers.Namers.{Namers}
-use Rattle.hir_ids.specs.Namers.{AreNamers}
-use Rattle.hir_facts.specs.Uses.{inner_uses, item_uses}
+use Rattle.hir_counts.specs.Words.{RawFacts, Namers, AreNamers, inner_uses, item_uses}
 
 -- who uses each type
 abbrev pub AreTypeUsers : RawFacts → List Namers → List Namers → Type 0

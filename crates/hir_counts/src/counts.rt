@@ -1,17 +1,14 @@
 //! Counts of inputs, arguments, parameters and variants.
 ghost use Rattle.std.specs.Prelude.{◌≡◌, ◌↔◌, ◌+◌, ◌<◌, ℕ, Some, [], length, slice_get, slice_index, IsTrue, IfOk, IfSome};
-ghost use Rattle.hir_raw.specs.declared.raw.RawField.{RawField};
-ghost use Rattle.hir_raw.specs.declared.mention.Said.{Said};
-ghost use Rattle.hir_facts.specs.Entries.{AllHold};
-ghost use Rattle.hir_facts.specs.Ids.{ChildrenBefore};
-ghost use Rattle.hir_facts.specs.Standing.{param_bound, wrong_args};
-ghost use Rattle.hir_counts.specs.Sought.{number_in, AreMosts};
-ghost use Rattle.hir_facts.specs.Counts.{count_of, CountsFit, AdtFitsBy, TypeFits, MentionFits, BodyFits, MaybeBodyFits, body_at, AreFitting, FnFitsBy, FnFits, HasVariants, AdtFits, param_count, IsBare, VariantFitsBy, VariantFits};
+ghost use Rattle.hir_counts.specs.Words.{RawField, Said, AllHold, ChildrenBefore, param_bound, wrong_args, count_of, CountsFit, AdtFitsBy, TypeFits, MentionFits, BodyFits, MaybeBodyFits, body_at, AreFitting, FnFitsBy, FnFits, HasVariants, AdtFits, param_count, IsBare, VariantFitsBy, VariantFits};
+ghost use Rattle.hir_counts.specs.Own.{number_in, AreMosts};
 
 use crate::goal_counts::goals_fit;
 use crate::standing::{Sought, mosts_of};
+use hir_ids::hir_raw::{
+    Mention, RawAdt, RawAdtKind, RawBody, RawFacts, RawField, RawFn, RawVariant, Said,
+};
 use hir_ids::{Test, said_of_body};
-use hir_raw::{Mention, RawAdt, RawAdtKind, RawBody, RawFacts, RawField, RawFn, RawVariant, Said};
 use hir_types::{AdtId, BodyId, TypeRefId};
 use std::alloc::{AllocError, Global};
 

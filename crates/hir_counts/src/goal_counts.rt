@@ -1,14 +1,12 @@
 //! Goals have as many arguments as what they name has parameters, and what is written in them fits.
 ghost use Rattle.std.specs.Prelude.{◌≡◌, ◌↔◌, ◌+◌, ℕ, Some, length, slice_get, IsTrue, IfSome};
-ghost use Rattle.hir_raw.specs.declared.raw.RawGoal.{RawGoal};
-ghost use Rattle.hir_raw.specs.declared.raw.RawAssocType.{RawAssocType};
-ghost use Rattle.hir_facts.specs.Standing.{param_bound, wrong_args};
-ghost use Rattle.hir_counts.specs.Sought.{number_in, AreMosts};
-ghost use Rattle.hir_facts.specs.Counts.{trait_params, alias_params, ArgsFit, GoalFits, GoalsFit, TypeFits, TraitFitsBy, TraitFits, AliasFitsBy, AliasFits, ImplTraitFits, ImplFitsBy, ImplFits};
+ghost use Rattle.hir_counts.specs.Words.{RawGoal, RawAssocType, param_bound, wrong_args, trait_params, ArgsFit, GoalFits, GoalsFit, TypeFits, TraitFitsBy, TraitFits, AliasFitsBy, AliasFits, ImplTraitFits, ImplFitsBy, ImplFits};
+ghost use Rattle.hir_counts.specs.Own.{number_in, AreMosts};
+ghost use Rattle.hir_counts.specs.Words.hir_facts.Counts.{alias_params};
 
 use crate::counts::{Standing, are_fitting, fits};
 use hir_ids::Test;
-use hir_raw::{RawAlias, RawAssocType, RawFacts, RawGoal, RawImpl, RawTrait, RawTraitRef};
+use hir_ids::hir_raw::{RawAlias, RawAssocType, RawFacts, RawGoal, RawImpl, RawTrait, RawTraitRef};
 use hir_types::{TraitId, TypeAliasId, TypeRefId};
 use std::alloc::{AllocError, Global};
 

@@ -1,12 +1,10 @@
 //! How long the lists of goals, traits and impls may be.
 ghost use Rattle.std.specs.Prelude.{◌≡◌, ◌↔◌, ℕ, Some, slice_get, IsTrue, IfSome};
-ghost use Rattle.hir_raw.specs.declared.raw.RawGoal.{RawGoal};
-ghost use Rattle.hir_raw.specs.Goals.{arg_types};
-ghost use Rattle.hir_facts.specs.Sizes.{IsShort, GoalIsShort, GoalsAreShort, TraitIsSmall, AliasIsSmall, ImplIsSmall, IsEarly};
+ghost use Rattle.hir_counts.specs.Words.{RawGoal, arg_types, IsShort, GoalIsShort, GoalsAreShort, TraitIsSmall, AliasIsSmall, ImplIsSmall, IsEarly};
 
 use crate::sizes::{is_early, is_short};
 use hir_ids::Test;
-use hir_raw::{RawAlias, RawFacts, RawGoal, RawImpl, RawLang, RawTrait, RawTraitRef};
+use hir_ids::hir_raw::{RawAlias, RawFacts, RawGoal, RawImpl, RawLang, RawTrait, RawTraitRef};
 use std::alloc::{AllocError, Global};
 
 fn goal_is_short(goal: &RawGoal) -> bool

@@ -1,15 +1,11 @@
 //! How long lists may be, and how deep types.
 ghost use Rattle.std.specs.Prelude.{◌≡◌, ◌↔◌, ◌+◌, ◌<◌, ℕ, Some, map, max, min, sum, length, slice_get, slice_index, IsTrue, IfOk};
-ghost use Rattle.hir_types.specs.declared.ids.TypeRefId.{TypeRefId};
-ghost use Rattle.hir_types.specs.Types.{most, depth, size};
-ghost use Rattle.hir_facts.specs.Entries.{AllHold};
-ghost use Rattle.hir_facts.specs.Ids.{ChildrenBefore};
-ghost use Rattle.hir_facts.specs.Sizes.{IsShort, ListIsShort, IsEarly, TypeIsSmall, AdtIsSmall, VariantIsSmall, FnIsSmall};
-ghost use Rattle.hir_counts.specs.Measures.{depth_by, size_by, AreMeasures};
+ghost use Rattle.hir_counts.specs.Words.{TypeRefId, most, depth, size, AllHold, ChildrenBefore, IsShort, ListIsShort, IsEarly, TypeIsSmall, AdtIsSmall, VariantIsSmall, FnIsSmall};
+ghost use Rattle.hir_counts.specs.Own.{depth_by, size_by, AreMeasures};
 
 use crate::goal_sizes::goals_are_short;
 use hir_ids::Test;
-use hir_raw::{Mention, RawAdt, RawFacts, RawFn, RawType, RawVariant};
+use hir_ids::hir_raw::{Mention, RawAdt, RawFacts, RawFn, RawType, RawVariant};
 use hir_types::{ModuleId, TypeRefId};
 use std::alloc::{AllocError, Global};
 
@@ -154,8 +150,7 @@ impl TypeSizes {
 
 impl Test for TypeSizes {
     ghost use Rattle.std.specs.Prelude.{◌≡◌, length};
-    ghost use Rattle.hir_types.specs.Types.{depth, size};
-    ghost use Rattle.hir_facts.specs.Sizes.{TypeIsSmall};
+    ghost use Rattle.hir_counts.specs.Words.{depth, size, TypeIsSmall};
     ghost use Rattle.hir_counts.specs.Measures.{AreMeasures};
 
     type Item = RawType;

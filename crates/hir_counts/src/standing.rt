@@ -1,14 +1,10 @@
 //! What stands in written types.
 ghost use Rattle.std.specs.Prelude.{◌≡◌, max, map, length, slice_index, IfOk};
-ghost use Rattle.hir_types.specs.Types.{most};
-ghost use Rattle.hir_raw.specs.WrittenTypes.{type_parts};
-ghost use Rattle.hir_facts.specs.Entries.{AllHold};
-ghost use Rattle.hir_facts.specs.Ids.{ChildrenBefore};
-ghost use Rattle.hir_facts.specs.Standing.{param_bound, wrong_args, hole_at};
-ghost use Rattle.hir_counts.specs.Sought.{own_of, AreMosts};
+ghost use Rattle.hir_counts.specs.Words.{most, type_parts, AllHold, ChildrenBefore, param_bound, wrong_args, hole_at};
+ghost use Rattle.hir_counts.specs.Own.{own_of, AreMosts};
 
 use crate::sizes::{larger, most_of};
-use hir_raw::{RawFacts, RawType, alias_params, has_params};
+use hir_ids::hir_raw::{RawFacts, RawType, alias_params, has_params};
 use std::alloc::{AllocError, Global};
 
 /// What is sought in a written type.

@@ -1,17 +1,13 @@
 //! Where written types are used: a `_` stands once, in a type written in a body.
 ghost use Rattle.std.specs.Prelude.{◌≡◌, ◌++◌, Some, map, length, flat_map, IfOk, OnOk};
-ghost use Rattle.hir_facts.specs.Entries.{AllHold};
-ghost use Rattle.hir_facts.specs.Ids.{ChildrenBefore};
-ghost use Rattle.hir_facts.specs.Standing.{hole_at};
-ghost use Rattle.hir_counts.specs.Sought.{AreMosts};
-ghost use Rattle.hir_facts.specs.Uses.{type_uses, mention_uses, body_uses, inner_uses, variant_uses, fn_uses, abstract_uses, item_uses, HoleFits};
-ghost use Rattle.hir_counts.specs.TypeUsers.{AreTypeUsers};
+ghost use Rattle.hir_counts.specs.Words.{AllHold, ChildrenBefore, hole_at, type_uses, mention_uses, body_uses, inner_uses, variant_uses, fn_uses, abstract_uses, item_uses, HoleFits};
+ghost use Rattle.hir_counts.specs.Own.{AreMosts, AreTypeUsers};
 
 use crate::counts::number_at;
 use crate::goal_uses::{push_goals_of, push_impls};
 use crate::standing::{Sought, mosts_of};
+use hir_ids::hir_raw::{Mention, RawBody, RawFacts, RawField, RawFn, RawType, RawVariant, Said};
 use hir_ids::{Namers, Test, is_nobody, is_one, namers_of, said_of_body};
-use hir_raw::{Mention, RawBody, RawFacts, RawField, RawFn, RawType, RawVariant, Said};
 use hir_types::TypeRefId;
 use std::alloc::{AllocError, Global};
 

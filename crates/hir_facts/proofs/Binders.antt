@@ -3,27 +3,15 @@ use Rattle.std.specs.Prelude.{◌≡◌, ℕ, zero, suc, Bool, true, false, List
 use Rattle.std.specs.List.{list_all}
 use Rattle.std.specs.Option.{option_and_then}
 use Rattle.std.proofs.Common.{ap, subst}
-use Rattle.hir_types.specs.declared.ids.BindingId.{BindingId}
-use Rattle.hir_types.specs.declared.ids.ExprId.{ExprId}
-use Rattle.hir_types.specs.declared.ids.PatId.{PatId}
+use Rattle.hir_facts.specs.Words.{BindingId, ExprId, PatId, Mention, RawPath, RawStmt, RawExpr, RawPat, RawBody, Schedule, maybe, of_list, path_mentions, stmt_mentions, expr_mentions, mentions_of_expr, mentions_of_pat, Mentions, Node, the_body, inner, Binds, binding_of, start}
 use Rattle.hir_types.specs.declared.ids.ExprOrPatId.TheVariants as node
-use Rattle.hir_raw.specs.declared.mention.Mention.{Mention}
 use Rattle.hir_raw.specs.declared.mention.Mention.TheVariants as it
-use Rattle.hir_raw.specs.declared.raw.RawPath.{RawPath}
 use Rattle.hir_raw.specs.declared.raw.RawPath.TheVariants as path
-use Rattle.hir_raw.specs.declared.raw.RawStmt.{RawStmt}
 use Rattle.hir_raw.specs.declared.raw.RawStmt.TheVariants as stmt
-use Rattle.hir_raw.specs.declared.raw.RawExpr.{RawExpr}
 use Rattle.hir_raw.specs.declared.raw.RawExpr.TheVariants as expr
-use Rattle.hir_raw.specs.declared.raw.RawPat.{RawPat}
 use Rattle.hir_raw.specs.declared.raw.RawPat.TheVariants as pat
-use Rattle.hir_raw.specs.declared.raw.RawBody.{RawBody}
-use Rattle.hir_raw.specs.declared.schedule.Schedule.{Schedule}
-use Rattle.hir_raw.specs.Mentions.{maybe, of_list, path_mentions, stmt_mentions, expr_mentions, mentions_of_expr, mentions_of_pat, Mentions}
-use Rattle.hir_raw.specs.Order.{Node, the_body, inner, Binds, binding_of, start}
 use Rattle.hir_facts.proofs.CarriedBodies.{list_all_at}
-use Rattle.hir_facts.specs.Bodies.{IsTypedBefore}
-use Rattle.hir_facts.specs.Scopes.{AreInScope}
+use Rattle.hir_facts.specs.Own.{IsTypedBefore, AreInScope}
 
 abbrev binds_none : Mention → Bool
 binds_none (it.Binds v) = false

@@ -3,7 +3,7 @@ use Rattle.std.proofs.Common.{inl, inr, ◌≡◌, ◌<◌, ◌≤◌, ◌+◌, 
 use Rattle.std.specs.Prelude.{slice_get, IsTrue}
 use Rattle.std.proofs.lemmas.Option.{slice_get_read, slice_get_within}
 use Rattle.std.proofs.Math.Nat.{eq-or-lt_of_le}
-use Rattle.hir_facts.specs.Entries.{AllHold, BreaksAt}
+use Rattle.hir_facts.specs.Own.{AllHold, BreaksAt}
 
 -- the entries before i pass; xs are the entries as the loop has them
 pub record Passed {A : Type 0} (P : ℕ → A → Type 0) (xs listed : List A) (i : ℕ) : Type 0 where

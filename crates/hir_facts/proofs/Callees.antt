@@ -5,33 +5,14 @@ use Rattle.std.specs.List.{list_all}
 use Rattle.std.specs.Option.{option_and_then}
 use Rattle.std.proofs.lemmas.Option.{slice_get_within}
 use Rattle.std.proofs.lemmas.List.Folds.{list_all-append}
-use Rattle.hir_types.specs.declared.ids.ExprId.{ExprId}
-use Rattle.hir_types.specs.declared.ids.PatId.{PatId}
-use Rattle.hir_types.specs.declared.ids.TypeRefId.{TypeRefId}
-use Rattle.hir_types.specs.declared.ids.BodyId.{BodyId}
-use Rattle.hir_types.specs.declared.ids.FunctionId.{FunctionId}
+use Rattle.hir_facts.specs.Words.{ExprId, PatId, TypeRefId, BodyId, FunctionId, RawStmt, RawArm, RawExpr, RawPat, RawBody, RawFacts, Role, let_else, initializer, tail, element, else_branch, guard, arm, argument, root, Part, expr_part, maybe_part, stmt_parts, stmts_parts, exprs_from, arm_patterns, arm_parts, arms_parts, expr_parts, param_parts, subpatterns, pat_parts, body_parts, Node, the_body, inner, IsNode, part_at, parts_of_expr, parts_of_pat, stmts_of, stmt_at, params_of}
 use Rattle.hir_types.specs.declared.ids.DefWithBodyId.TheVariants as def
 use Rattle.hir_types.specs.declared.ids.ExprOrPatId.TheVariants as node
-use Rattle.hir_raw.specs.declared.raw.RawStmt.{RawStmt}
 use Rattle.hir_raw.specs.declared.raw.RawStmt.TheVariants as stmt
-use Rattle.hir_raw.specs.declared.raw.RawArm.{RawArm}
-use Rattle.hir_raw.specs.declared.raw.RawExpr.{RawExpr}
 use Rattle.hir_raw.specs.declared.raw.RawExpr.TheVariants as expr
-use Rattle.hir_raw.specs.declared.raw.RawPat.{RawPat}
 use Rattle.hir_raw.specs.declared.raw.RawPat.TheVariants as pat
-use Rattle.hir_raw.specs.declared.raw.RawBody.{RawBody}
-use Rattle.hir_raw.specs.declared.raw.RawFacts.{RawFacts}
-use Rattle.hir_raw.specs.Order.{Role, let_else, initializer, tail, element, else_branch, guard, arm, argument, root, Part, expr_part, maybe_part, stmt_parts, stmts_parts, exprs_from, arm_patterns, arm_parts, arms_parts, expr_parts, param_parts, subpatterns, pat_parts, body_parts, Node, the_body, inner, IsNode, part_at, parts_of_expr, parts_of_pat, stmts_of, stmt_at}
 use Rattle.hir_facts.proofs.CarriedBodies.{list_all_at}
-use Rattle.hir_facts.specs.Literals.{IsLiteral, LiteralsFit}
-use Rattle.hir_facts.specs.Bodies.{body_id_of, body_of}
-use Rattle.hir_facts.specs.WrittenFits.{FitsThere, lets_fit}
-use Rattle.hir_facts.specs.Lawful.{IsLawful}
-use Rattle.hir_facts.specs.LawfulFacts.{literals_fit}
-use Rattle.hir_facts.specs.Plain.{is_item, is_item_at, is_callee, stands_right, IsPlainBody}
-use Rattle.hir_facts.specs.PlainBodies.{is_value, is_maybe_value, stmt_has_values, arm_has_values, has_callees, LetFits, LetsFit, LooksPlain}
-use Rattle.hir_raw.specs.Scope.{params_of}
-use Rattle.hir_facts.specs.Entries.{AllHold}
+use Rattle.hir_facts.specs.Own.{IsLiteral, LiteralsFit, body_id_of, body_of, FitsThere, lets_fit, IsLawful, literals_fit, is_item, is_item_at, is_callee, stands_right, IsPlainBody, is_value, is_maybe_value, stmt_has_values, arm_has_values, has_callees, LetFits, LetsFit, LooksPlain, AllHold}
 
 -- ---- lists of tests
 

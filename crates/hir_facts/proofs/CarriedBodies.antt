@@ -3,12 +3,10 @@ use Rattle.std.specs.Prelude.{◌≡◌, ℕ, zero, suc, Bool, ◌&&◌, List, [
 use Rattle.std.specs.List.{list_all}
 use Rattle.std.specs.Cmp.{first_so, second_so}
 use Rattle.std.proofs.Common.{subst}
-use Rattle.hir_types.specs.declared.ids.VariantId.{VariantId}
-use Rattle.hir_raw.specs.declared.raw.RawPath.{RawPath}
+use Rattle.hir_facts.specs.Words.{VariantId, RawPath, RawBody}
 use Rattle.hir_raw.specs.declared.raw.RawPath.TheVariants as path
 use Rattle.hir_raw.specs.declared.raw.RawPat.TheVariants as pat
-use Rattle.hir_raw.specs.declared.raw.RawBody.{RawBody}
-use Rattle.hir_facts.specs.Carried.{is_carried_expr, is_carried_pat, is_carried_binding, is_ctor_path, is_carried_body}
+use Rattle.hir_facts.specs.Own.{is_carried_expr, is_carried_pat, is_carried_binding, is_ctor_path, is_carried_body}
 
 pub record CarriedParts (b : RawBody) : Type 0 where
   pub exprs : IsTrue (list_all is_carried_expr b.exprs)

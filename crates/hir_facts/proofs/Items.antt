@@ -2,18 +2,9 @@
 use Rattle.std.specs.Prelude.{◌≡◌, ◌<◌, ◌⊎◌, ℕ, zero, suc, List, [], ◌∷◌, length, slice_get, Some, IsTrue, refl, is_none}
 use Rattle.std.specs.Cmp.{first_so}
 use Rattle.std.proofs.Common.{arith, inl, inr, subst}
-use Rattle.hir_raw.specs.declared.raw.RawCtor.{RawCtor}
+use Rattle.hir_facts.specs.Words.{RawCtor, RawAdt, RawVariant, RawFacts, RawField, field_refs, variant_aliases, TypeRefId}
 use Rattle.hir_raw.specs.declared.raw.RawCtor.TheVariants as ctor
-use Rattle.hir_raw.specs.declared.raw.RawAdt.{RawAdt}
-use Rattle.hir_raw.specs.declared.raw.RawVariant.{RawVariant}
-use Rattle.hir_raw.specs.declared.raw.RawFacts.{RawFacts}
-use Rattle.hir_raw.specs.declared.raw.RawField.{RawField}
-use Rattle.hir_raw.specs.Hidden.{field_refs, variant_aliases}
-use Rattle.hir_types.specs.declared.ids.TypeRefId.{TypeRefId}
-use Rattle.hir_facts.specs.Carried.{is_carried_ctor}
-use Rattle.hir_facts.specs.Projections.{IsNoProjection}
-use Rattle.hir_facts.specs.Lawful.{IsLawful}
-use Rattle.hir_facts.specs.LawfulFacts.{carried_variants, variants_carried, variant_ids}
+use Rattle.hir_facts.specs.Own.{is_carried_ctor, IsNoProjection, IsLawful, carried_variants, variants_carried, variant_ids}
 use Rattle.hir_facts.proofs.NoAliases.{no_field_aliases}
 
 adt_there : (adts : List RawAdt) (i : ℕ) → i < length adts → (a : RawAdt) × (slice_get adts i ≡ Some a)

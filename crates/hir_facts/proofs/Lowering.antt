@@ -2,19 +2,11 @@
 use Rattle.std.proofs.Common.{◌≡◌, ◌<◌, ◌≤◌, ℕ, List, length, get_or, slice_get, map, take, Some, option_map, refl, sym, ◌∙◌, ap}
 use Rattle.std.proofs.lemmas.List.{take_all}
 use Rattle.std.proofs.lemmas.Option.{slice_get_read, slice_get-get_or}
-use Rattle.hir_types.specs.declared.ids.TypeRefId.{TypeRefId}
-use Rattle.hir_raw.specs.declared.raw.RawType.{RawType}
+use Rattle.hir_facts.specs.Words.{TypeRefId, RawType, Ty, GenericArg, type_parts, lowered, lowered_by, opened_type, opened, opened_at}
 use Rattle.hir_raw.specs.declared.raw.RawType.TheVariants as type
-use Rattle.hir_types.specs.declared.ty.Ty.{Ty}
 use Rattle.hir_types.specs.declared.ty.Ty.TheVariants as ty
-use Rattle.hir_types.specs.declared.ty.GenericArg.{GenericArg}
 use Rattle.hir_types.specs.declared.ty.GenericArg.TheVariants as arg
-use Rattle.hir_raw.specs.WrittenTypes.{type_parts, lowered, lowered_by}
-use Rattle.hir_raw.specs.Hidden.{opened_type, opened}
-use Rattle.hir_raw.specs.Opened.{opened_at}
-use Rattle.hir_facts.specs.Entries.{AllHold}
-use Rattle.hir_facts.specs.Ids.{ChildrenBefore}
-use Rattle.hir_facts.specs.Lowered.{lowered_parts, opened_before}
+use Rattle.hir_facts.specs.Own.{AllHold, ChildrenBefore, lowered_parts, opened_before}
 
 pub part_below : (types : List RawType) (t : ℕ) (x y : RawType) (items : List TypeRefId) (i : ℕ) (d : TypeRefId) → AllHold ChildrenBefore types → t < length types → x ≡ get_or types t x → x ≡ y → items ≡ type_parts y → i < length items → (get_or items i d).0 < t
 part_below types t x y items i d all lt read is same below =

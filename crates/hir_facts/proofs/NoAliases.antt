@@ -2,19 +2,8 @@
 use Rattle.std.specs.Prelude.{◌≡◌, ◌<◌, ℕ, zero, suc, ◌+◌, Bool, true, false, List, [], ◌∷◌, ◌++◌, length, slice_get, Option, Some, None, option_map, if◌then◌else◌, flat_map, refl}
 use Rattle.std.proofs.Common.{arith, ap, sym, true≢false, ◌∙◌}
 use Rattle.std.proofs.lemmas.Option.{slice_get-map}
-use Rattle.hir_types.specs.declared.ids.TypeRefId.{TypeRefId}
-use Rattle.hir_raw.specs.declared.raw.RawFacts.{RawFacts}
-use Rattle.hir_raw.specs.declared.raw.RawField.{RawField}
-use Rattle.hir_raw.specs.declared.raw.RawFn.{RawFn}
-use Rattle.hir_raw.specs.declared.raw.RawType.{RawType}
-use Rattle.hir_raw.specs.declared.raw.RawVariant.{RawVariant}
-use Rattle.hir_raw.specs.Hidden.{is_alias, aliases_by, aliases_within, aliases_at, aliases_in, fn_aliases, field_refs, variant_aliases}
-use Rattle.hir_raw.specs.Scope.{fn_arity}
-use Rattle.hir_raw.specs.WrittenTypes.{type_parts}
-use Rattle.hir_facts.specs.Projections.{HoldsProjection, is_one, in_part, IsNoProjection, SignatureNamesNone}
-use Rattle.hir_facts.specs.Lawful.{IsLawful}
-use Rattle.hir_facts.specs.LawfulFacts.{type_ids, variant_ids, fn_ids}
-use Rattle.hir_facts.specs.WrittenFits.{direct_here}
+use Rattle.hir_facts.specs.Words.{TypeRefId, RawFacts, RawField, RawFn, RawType, RawVariant, is_alias, aliases_by, aliases_within, aliases_at, aliases_in, fn_aliases, field_refs, variant_aliases, fn_arity, type_parts}
+use Rattle.hir_facts.specs.Own.{HoldsProjection, is_one, in_part, IsNoProjection, SignatureNamesNone, IsLawful, type_ids, variant_ids, fn_ids, direct_here}
 
 none_of : (f : ℕ → List ℕ) (ws : List TypeRefId) → ((k : ℕ) (w : TypeRefId) → slice_get ws k ≡ Some w → f w.0 ≡ []) → flat_map (λ w. f w.0) ws ≡ []
 none_of f [] none = refl

@@ -2,28 +2,11 @@
 use Rattle.std.specs.Prelude.{◌≡◌, ◌<◌, ◌≤◌, ◌⊎◌, ◌++◌, ◌+◌, ℕ, zero, suc, List, [], ◌∷◌, map, length, slice_get, Option, Some, None, flat_map, refl}
 use Rattle.std.proofs.lemmas.Grind.{flat_map-append}
 use Rattle.std.proofs.Common.{arith, ap, ◌∙◌, sym, subst, inl, inr}
-use Rattle.hir_types.specs.declared.ids.ExprId.{ExprId}
-use Rattle.hir_types.specs.declared.ids.LabelId.{LabelId}
-use Rattle.hir_types.specs.declared.ids.PatId.{PatId}
-use Rattle.hir_types.specs.declared.ids.TypeRefId.{TypeRefId}
-use Rattle.hir_raw.specs.declared.raw.RawType.{RawType}
+use Rattle.hir_facts.specs.Words.{ExprId, LabelId, PatId, TypeRefId, RawType, Mention, Said, RawStmt, RawExpr, RawBody, RawFacts, type_parts, StandsIn, is_itself, in_part, stmt_mentions, expr_mentions, body_mentions, each, said, expr_said, pat_said, body_said, stmts_of, stmt_at}
 use Rattle.hir_raw.specs.declared.raw.RawType.TheVariants as type
 use Rattle.hir_raw.specs.declared.raw.RawStmt.TheVariants as stmt
-use Rattle.hir_raw.specs.declared.mention.Mention.{Mention}
-use Rattle.hir_raw.specs.declared.mention.Said.{Said}
-use Rattle.hir_raw.specs.declared.raw.RawStmt.{RawStmt}
-use Rattle.hir_raw.specs.declared.raw.RawExpr.{RawExpr}
 use Rattle.hir_raw.specs.declared.raw.RawExpr.TheVariants as expr
-use Rattle.hir_raw.specs.declared.raw.RawBody.{RawBody}
-use Rattle.hir_raw.specs.declared.raw.RawFacts.{RawFacts}
-use Rattle.hir_raw.specs.WrittenTypes.{type_parts, StandsIn, is_itself, in_part}
-use Rattle.hir_raw.specs.Mentions.{stmt_mentions, expr_mentions, body_mentions, each, said, expr_said, pat_said, body_said}
-use Rattle.hir_raw.specs.Order.{stmts_of, stmt_at}
-use Rattle.hir_facts.specs.Uses.{type_uses, mention_uses, body_uses, inner_uses}
-use Rattle.hir_facts.specs.Lawful.{IsLawful}
-use Rattle.hir_facts.specs.LawfulFacts.{type_ids, holes_fit}
-use Rattle.hir_facts.specs.NoHoles.{In, in_first, in_last, in_flat}
-use Rattle.hir_facts.specs.Filled.{none_stands}
+use Rattle.hir_facts.specs.Own.{type_uses, mention_uses, body_uses, inner_uses, IsLawful, type_ids, holes_fit, In, in_first, in_last, in_flat, none_stands}
 
 -- ---- what stands once in a list
 

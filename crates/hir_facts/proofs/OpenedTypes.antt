@@ -2,34 +2,13 @@
 use Rattle.std.specs.Prelude.{◌≡◌, ◌<◌, ◌≤◌, ℕ, zero, suc, ◌+◌, ◌==◌, Bool, true, false, List, [], ◌∷◌, map, length, slice_get, Option, Some, option_map, if◌then◌else◌, IsTrue, flat_map, refl}
 use Rattle.std.proofs.Common.{arith, ap, sym, subst, true≢false, ◌∙◌}
 use Rattle.std.proofs.lemmas.List.{length-map}
-use Rattle.hir_types.specs.declared.ids.TypeRefId.{TypeRefId}
+use Rattle.hir_facts.specs.Words.{TypeRefId, IntegerTy, AdtId, Ty, map_twice, integer_type, RawFacts, RawAdt, RawField, RawFn, RawType, RawVariant, is_alias, aliases_by, aliases_within, aliases_at, aliases_in, fn_aliases, field_refs, variant_aliases, place_in, opened_by, opened_type, opened, opened_at, stays_if_no_alias, place_below, adt_params, has_params, fn_arity, variant_arity, type_args, fn_types, variant_types, type_parts, filled_by, filled_within, written_type}
 use Rattle.hir_types.specs.declared.ty.GenericArg.TheVariants as arg
-use Rattle.hir_types.specs.declared.ty.IntegerTy.{IntegerTy}
-use Rattle.hir_types.specs.declared.ids.AdtId.{AdtId}
-use Rattle.hir_types.specs.declared.ty.Ty.{Ty}
 use Rattle.hir_types.specs.declared.ty.Ty.TheVariants as ty
-use Rattle.hir_types.specs.Folds.{map_twice}
-use Rattle.hir_types.specs.Types.{integer_type}
-use Rattle.hir_raw.specs.declared.raw.RawFacts.{RawFacts}
-use Rattle.hir_raw.specs.declared.raw.RawAdt.{RawAdt}
-use Rattle.hir_raw.specs.declared.raw.RawField.{RawField}
-use Rattle.hir_raw.specs.declared.raw.RawFn.{RawFn}
-use Rattle.hir_raw.specs.declared.raw.RawType.{RawType}
 use Rattle.hir_raw.specs.declared.raw.RawType.TheVariants as type
-use Rattle.hir_raw.specs.declared.raw.RawVariant.{RawVariant}
-use Rattle.hir_raw.specs.Hidden.{is_alias, aliases_by, aliases_within, aliases_at, aliases_in, fn_aliases, field_refs, variant_aliases, place_in, opened_by, opened_type, opened}
-use Rattle.hir_raw.specs.Opened.{opened_at, stays_if_no_alias, place_below}
-use Rattle.hir_raw.specs.Scope.{adt_params, has_params, fn_arity, variant_arity}
-use Rattle.hir_raw.specs.Signatures.{type_args, fn_types, variant_types}
-use Rattle.hir_raw.specs.WrittenTypes.{type_parts, filled_by, filled_within, written_type}
-use Rattle.hir_raw.proofs.Aliases.{at_alias}
+use Rattle.hir_facts.proofs.Words.{at_alias}
 use Rattle.hir_facts.specs.Carried as carried
-use Rattle.hir_facts.specs.Standing.{hole_at, most_in, HasNoHole}
-use Rattle.hir_facts.specs.Most.{own_most, part_most}
-use Rattle.hir_facts.specs.Lawful.{IsLawful}
-use Rattle.hir_facts.specs.LawfulFacts.{type_ids, types_carried}
-use Rattle.hir_facts.specs.NoHoles.{In, in_first, in_last, in_flat, type_there, input_has_no_hole, output_has_no_hole, field_has_no_hole}
-use Rattle.hir_facts.specs.WrittenFits.{FitsThere, OwnFits, own_there, parts_there, inputs_fit, output_fits, fields_fit}
+use Rattle.hir_facts.specs.Own.{hole_at, most_in, HasNoHole, own_most, part_most, IsLawful, type_ids, types_carried, In, in_first, in_last, in_flat, type_there, input_has_no_hole, output_has_no_hole, field_has_no_hole, FitsThere, OwnFits, own_there, parts_there, inputs_fit, output_fits, fields_fit}
 
 -- ---- the places
 

@@ -3,17 +3,9 @@ use Rattle.std.proofs.Common.{◌≡◌, inl, inr, ℕ, zero, suc, ◌<◌, Bool
 use Rattle.std.specs.Prelude.{◌↔◌, slice_get, Option, None, IsSomeAnd}
 use Rattle.std.proofs.lemmas.Bool.{cases_lt}
 use Rattle.std.proofs.lemmas.List.{get_or_past}
-use Rattle.hir_types.specs.declared.ids.FunctionId.{FunctionId}
-use Rattle.hir_raw.specs.declared.raw.RawFn.{RawFn}
-use Rattle.hir_raw.specs.declared.raw.RawType.{RawType}
+use Rattle.hir_facts.specs.Words.{FunctionId, RawFn, RawType, RawFacts, is_alias, type_parts}
 use Rattle.hir_raw.specs.declared.raw.RawType.TheVariants as type
-use Rattle.hir_raw.specs.declared.raw.RawFacts.{RawFacts}
-use Rattle.hir_raw.specs.Hidden.{is_alias}
-use Rattle.hir_raw.specs.WrittenTypes.{type_parts}
-use Rattle.hir_facts.specs.declared.plain_marks.PlainMarks.{PlainMarks}
-use Rattle.hir_facts.specs.Projections.{is_one, in_part, IsNoProjection, SignatureNamesNone}
-use Rattle.hir_facts.specs.Plain.{IsPlainKind, IsPlainType, plain, IsPlainAdt, IsPlainSignature}
-use Rattle.hir_facts.specs.PlainMarks.{IsMarked, ArePlainMarks}
+use Rattle.hir_facts.specs.Own.{PlainMarks, is_one, in_part, IsNoProjection, SignatureNamesNone, IsPlainKind, IsPlainType, plain, IsPlainAdt, IsPlainSignature, IsMarked, ArePlainMarks}
 
 -- ---- a plain signature names no projection
 

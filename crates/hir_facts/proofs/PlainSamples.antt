@@ -1,43 +1,23 @@
 -- Small samples of what is plain and what is not.
 use Rattle.std.proofs.Common.{◌≡◌, ℕ, zero, suc, Bool, true, false, List, [], ◌∷◌, length, Some, None, refl, sym, ap, ◌∙◌, subst, arith}
 use Rattle.std.specs.Prelude.{codes, slice_get, IsTrue, IsSomeAnd}
-use Rattle.hir_types.specs.declared.ids.TypeRefId.{TypeRefId}
-use Rattle.hir_types.specs.declared.ids.VariantId.{VariantId}
-use Rattle.hir_types.specs.declared.ids.ExprId.{ExprId}
-use Rattle.hir_types.specs.declared.ids.PatId.{PatId}
-use Rattle.hir_types.specs.declared.ids.LabelId.{LabelId}
-use Rattle.hir_types.specs.declared.ids.BindingId.{BindingId}
-use Rattle.hir_types.specs.declared.ids.FunctionId.{FunctionId}
-use Rattle.hir_types.specs.declared.ids.ConstId.{ConstId}
+use Rattle.hir_facts.specs.Words.{TypeRefId, VariantId, ExprId, PatId, LabelId, BindingId, FunctionId, ConstId, RawType, RawParam, RawAdtKind, RawAdt, RawCtor, RawField, RawVariant, RawFn, BindingAnnotation, RawExpr, RawBody, RawFacts, Part, expr_part, root, callee, Node, the_body, inner, IsNode, part_at, parts_of_expr}
 use Rattle.hir_types.specs.declared.ids.DefWithBodyId.TheVariants as def
 use Rattle.hir_raw.specs.declared.raw.Edition.TheVariants as edition
-use Rattle.hir_raw.specs.declared.raw.RawType.{RawType}
 use Rattle.hir_raw.specs.declared.raw.RawType.TheVariants as type
-use Rattle.hir_raw.specs.declared.raw.RawParam.{RawParam}
 use Rattle.hir_raw.specs.declared.raw.RawParam.TheVariants as parameter
-use Rattle.hir_raw.specs.declared.raw.RawAdtKind.{RawAdtKind}
 use Rattle.hir_raw.specs.declared.raw.RawAdtKind.TheVariants as kind
-use Rattle.hir_raw.specs.declared.raw.RawAdt.{RawAdt}
-use Rattle.hir_raw.specs.declared.raw.RawCtor.{RawCtor}
 use Rattle.hir_raw.specs.declared.raw.RawCtor.TheVariants as ctor
 use Rattle.hir_raw.specs.declared.raw.RawVis.TheVariants as visible
-use Rattle.hir_raw.specs.declared.raw.RawField.{RawField}
-use Rattle.hir_raw.specs.declared.raw.RawVariant.{RawVariant}
 use Rattle.hir_raw.specs.declared.raw.RawAt.TheVariants as stands
-use Rattle.hir_raw.specs.declared.raw.RawFn.{RawFn}
 use Rattle.hir_raw.specs.declared.raw.RawLiteral.TheVariants as literal
 use Rattle.hir_raw.specs.declared.raw.RawPat.TheVariants as pat
-use Rattle.hir_raw.specs.declared.raw.BindingAnnotation.{BindingAnnotation}
 use Rattle.hir_raw.specs.declared.raw.BindingAnnotation.TheVariants as mode
 use Rattle.hir_raw.specs.declared.raw.RawPath.TheVariants as path
 use Rattle.hir_raw.specs.declared.raw.RawStmt.TheVariants as stmt
-use Rattle.hir_raw.specs.declared.raw.RawExpr.{RawExpr}
 use Rattle.hir_raw.specs.declared.raw.RawExpr.TheVariants as expr
-use Rattle.hir_raw.specs.declared.raw.RawBody.{RawBody}
-use Rattle.hir_raw.specs.declared.raw.RawFacts.{RawFacts}
-use Rattle.hir_raw.specs.Order.{Part, expr_part, root, callee, Node, the_body, inner, IsNode, part_at, parts_of_expr}
 use Rattle.hir_types.specs.declared.ids.ExprOrPatId.TheVariants as node
-use Rattle.hir_facts.specs.Plain.{IsPlainKind, IsPlainType, plain, has_plain_params, adt_fields, IsPlainWhere, IsPlainSet, IsPlainAdt, IsPlainSignature, IsPlainFn, stands_right, IsPlainPath, IsPlainPathPat, IsPlainStmt, IsPlainExpr, IsPlainPat, IsPlainOver, IsPlainBody, HasSizedParams, HasPlainBody, IsPlainBodyOf}
+use Rattle.hir_facts.specs.Own.{IsPlainKind, IsPlainType, plain, has_plain_params, adt_fields, IsPlainWhere, IsPlainSet, IsPlainAdt, IsPlainSignature, IsPlainFn, stands_right, IsPlainPath, IsPlainPathPat, IsPlainStmt, IsPlainExpr, IsPlainPat, IsPlainOver, IsPlainBody, HasSizedParams, HasPlainBody, IsPlainBodyOf}
 
 abbrev w : ℕ → TypeRefId
 w n = record { 0 = n }

@@ -3,25 +3,11 @@ use Rattle.std.specs.Prelude.{◌≡◌, ◌+◌, ◌<◌, ℕ, List, length, sl
 use Rattle.std.specs.Option.{option_and_then}
 use Rattle.std.proofs.Common.{ap, arith, inl, inr}
 use Rattle.std.proofs.lemmas.Option.{slice_get_within, slice_get_read}
-use Rattle.hir_types.specs.declared.ids.BodyId.{BodyId}
-use Rattle.hir_types.specs.declared.ids.DefWithBodyId.{DefWithBodyId}
+use Rattle.hir_facts.specs.Words.{BodyId, DefWithBodyId, RawFn, RawBody, RawFacts, Schedule, IsSchedule, AreDepths}
 use Rattle.hir_types.specs.declared.ids.DefWithBodyId.TheVariants as def
-use Rattle.hir_raw.specs.declared.raw.RawFn.{RawFn}
-use Rattle.hir_raw.specs.declared.raw.RawBody.{RawBody}
-use Rattle.hir_raw.specs.declared.raw.RawFacts.{RawFacts}
-use Rattle.hir_raw.specs.declared.schedule.Schedule.{Schedule}
-use Rattle.hir_raw.specs.Order.{IsSchedule, AreDepths}
-use Rattle.hir_facts.specs.Bodies.{IsWalkable, body_id_of, inputs_by, inputs_of}
-use Rattle.hir_facts.specs.Carried.{is_carried_body}
+use Rattle.hir_facts.specs.Own.{IsWalkable, body_id_of, inputs_by, inputs_of, is_carried_body, BodyIdsExist, count_of, IsWellFormed, IsLawful, AreSchedules, binder_exists, bodies_carried, body_ids, counts_fit, bodies_well_formed, scopes_hold, bodies_small, literals_fit}
 use Rattle.hir_facts.proofs.CarriedBodies.{carried_parts}
-use Rattle.hir_facts.specs.Ids.{BodyIdsExist}
-use Rattle.hir_facts.specs.Counts.{count_of}
-use Rattle.hir_facts.specs.Trees.{IsWellFormed}
-use Rattle.hir_facts.specs.Lawful.{IsLawful}
-use Rattle.hir_facts.specs.Scheduled.{AreSchedules}
 use Rattle.hir_facts.proofs.Binders.{typed_before}
-use Rattle.hir_facts.specs.Existing.{binder_exists}
-use Rattle.hir_facts.specs.LawfulFacts.{bodies_carried, body_ids, counts_fit, bodies_well_formed, scopes_hold, bodies_small, literals_fit}
 
 -- a carried body has no `self`
 pub no_self : (b : RawBody) → IsTrue (is_carried_body b) → b.self_ ≡ None

@@ -1,24 +1,12 @@
 -- The body of a definition, and the laws that a walk of it rests on.
 use Rattle.std.specs.Prelude.{ℕ, ◌≡◌, ◌<◌, List, [], length, slice_get, Option, Some, None, IsSome, IsTrue}
 use Rattle.std.specs.Option.{option_and_then}
-use Rattle.hir_types.specs.declared.ids.BodyId.{BodyId}
-use Rattle.hir_types.specs.declared.ids.ExprId.{ExprId}
-use Rattle.hir_types.specs.declared.ids.PatId.{PatId}
-use Rattle.hir_types.specs.declared.ids.BindingId.{BindingId}
-use Rattle.hir_types.specs.declared.ids.TypeRefId.{TypeRefId}
-use Rattle.hir_types.specs.declared.ids.DefWithBodyId.{DefWithBodyId}
+use Rattle.hir_facts.specs.Words.{BodyId, ExprId, PatId, BindingId, TypeRefId, DefWithBodyId, RawFn, RawBody, RawFacts, Schedule, Ty, written_type, IsSchedule, PartsFit, Binds, start, inner}
 use Rattle.hir_types.specs.declared.ids.DefWithBodyId.TheVariants as def
-use Rattle.hir_raw.specs.declared.raw.RawFn.{RawFn}
-use Rattle.hir_raw.specs.declared.raw.RawBody.{RawBody}
-use Rattle.hir_raw.specs.declared.raw.RawFacts.{RawFacts}
-use Rattle.hir_raw.specs.declared.schedule.Schedule.{Schedule}
-use Rattle.hir_types.specs.declared.ty.Ty.{Ty}
 use Rattle.hir_types.specs.declared.ty.Ty.TheVariants as ty
-use Rattle.hir_raw.specs.WrittenTypes.{written_type}
 use Rattle.hir_types.specs.declared.ids.ExprOrPatId.TheVariants as node
 use Rattle.hir_raw.specs.declared.raw.RawPath.TheVariants as path
 use Rattle.hir_raw.specs.declared.raw.RawExpr.TheVariants as expr
-use Rattle.hir_raw.specs.Order.{IsSchedule, PartsFit, Binds, start, inner}
 use Rattle.hir_facts.specs.Carried.{is_carried_body}
 use Rattle.hir_facts.specs.Trees.{BoundByPattern}
 use Rattle.hir_facts.specs.Literals.{IsPatternOf, IsLiteral}

@@ -1,43 +1,21 @@
 -- Each entry and part is of a kind that is carried.
 use Rattle.std.specs.Prelude.{Bool, true, false, ◌&&◌, List, [], ◌∷◌, Option, Some, None, is_none, not}
 use Rattle.std.specs.List.{list_all}
-use Rattle.hir_raw.specs.declared.raw.RawType.{RawType}
+use Rattle.hir_facts.specs.Words.{RawType, RawParam, RawAdtKind, RawAdt, RawArgs, RawTraitRef, RawGoal, RawTrait, RawAlias, RawImpl, RawLang, RawCtor, RawVariant, RawAt, RawFn, RawLiteral, RawPath, RawStmt, RawExpr, RawPat, RawBinding, BindingAnnotation, RawBody}
 use Rattle.hir_raw.specs.declared.raw.RawType.TheVariants as type
-use Rattle.hir_raw.specs.declared.raw.RawParam.{RawParam}
 use Rattle.hir_raw.specs.declared.raw.RawParam.TheVariants as param
-use Rattle.hir_raw.specs.declared.raw.RawAdtKind.{RawAdtKind}
 use Rattle.hir_raw.specs.declared.raw.RawAdtKind.TheVariants as kind
-use Rattle.hir_raw.specs.declared.raw.RawAdt.{RawAdt}
-use Rattle.hir_raw.specs.declared.raw.RawArgs.{RawArgs}
 use Rattle.hir_raw.specs.declared.raw.RawArgs.TheVariants as args
-use Rattle.hir_raw.specs.declared.raw.RawTraitRef.{RawTraitRef}
-use Rattle.hir_raw.specs.declared.raw.RawGoal.{RawGoal}
 use Rattle.hir_raw.specs.declared.raw.RawGoal.TheVariants as goal
-use Rattle.hir_raw.specs.declared.raw.RawTrait.{RawTrait}
-use Rattle.hir_raw.specs.declared.raw.RawAlias.{RawAlias}
-use Rattle.hir_raw.specs.declared.raw.RawImpl.{RawImpl}
-use Rattle.hir_raw.specs.declared.raw.RawLang.{RawLang}
 use Rattle.hir_raw.specs.declared.raw.RawLang.TheVariants as lang
-use Rattle.hir_raw.specs.declared.raw.RawCtor.{RawCtor}
 use Rattle.hir_raw.specs.declared.raw.RawCtor.TheVariants as ctor
-use Rattle.hir_raw.specs.declared.raw.RawVariant.{RawVariant}
-use Rattle.hir_raw.specs.declared.raw.RawAt.{RawAt}
 use Rattle.hir_raw.specs.declared.raw.RawAt.TheVariants as stands
-use Rattle.hir_raw.specs.declared.raw.RawFn.{RawFn}
-use Rattle.hir_raw.specs.declared.raw.RawLiteral.{RawLiteral}
 use Rattle.hir_raw.specs.declared.raw.RawLiteral.TheVariants as literal
-use Rattle.hir_raw.specs.declared.raw.RawPath.{RawPath}
 use Rattle.hir_raw.specs.declared.raw.RawPath.TheVariants as path
-use Rattle.hir_raw.specs.declared.raw.RawStmt.{RawStmt}
 use Rattle.hir_raw.specs.declared.raw.RawStmt.TheVariants as stmt
-use Rattle.hir_raw.specs.declared.raw.RawExpr.{RawExpr}
 use Rattle.hir_raw.specs.declared.raw.RawExpr.TheVariants as expr
-use Rattle.hir_raw.specs.declared.raw.RawPat.{RawPat}
 use Rattle.hir_raw.specs.declared.raw.RawPat.TheVariants as pat
-use Rattle.hir_raw.specs.declared.raw.RawBinding.{RawBinding}
-use Rattle.hir_raw.specs.declared.raw.BindingAnnotation.{BindingAnnotation}
 use Rattle.hir_raw.specs.declared.raw.BindingAnnotation.TheVariants as mode
-use Rattle.hir_raw.specs.declared.raw.RawBody.{RawBody}
 
 abbrev pub is_carried_written_type : RawType → Bool
 is_carried_written_type type.Bool = true

@@ -3,30 +3,17 @@ use Rattle.std.specs.Prelude.{◌≡◌, ◌<◌, ℕ, zero, suc, Bool, true, fa
 use Rattle.std.specs.List.{list_all, list_any}
 use Rattle.std.proofs.Common.{arith, sym, ◌∙◌, ap, subst}
 use mathlib.Core.Bool.{true≢false}
-use Rattle.hir_types.specs.declared.ids.TypeRefId.{TypeRefId}
-use Rattle.hir_types.specs.declared.ty.AliasBound.{AliasBound, AliasBound-F, roll-AliasBound}
-use Rattle.hir_types.specs.declared.ids.AdtId.{AdtId}
-use Rattle.hir_types.specs.declared.ids.CallableDefId.{CallableDefId}
-use Rattle.hir_types.specs.declared.ty.GenericArg.{GenericArg, GenericArg-F, map-GenericArg, fold-GenericArg, fold-roll-GenericArg, roll-GenericArg}
+use Rattle.hir_facts.specs.Words.{TypeRefId, AliasBound, AliasBound-F, roll-AliasBound, AdtId, CallableDefId, GenericArg, GenericArg-F, map-GenericArg, fold-GenericArg, fold-roll-GenericArg, roll-GenericArg, TraitRef, TraitRef-F, roll-TraitRef, IntegerTy, Ty, Ty-F, map-Ty, ind-Ty, fold-Ty, roll-Ty, fold-roll-Ty, integer_type, erased, arg_erased, erased_step, Same, has_hole, hole_arg, hole_step, hole_bound, hole_trait, IsClosed, RawType, RawFacts, type_parts, filled_by, filled_within, written_type, TypeAliasId}
 use Rattle.hir_types.specs.declared.ty.GenericArg.TheVariants as arg
-use Rattle.hir_types.specs.declared.ty.TraitRef.{TraitRef, TraitRef-F, roll-TraitRef}
-use Rattle.hir_types.specs.declared.ty.IntegerTy.{IntegerTy}
 use Rattle.hir_types.specs.declared.ty.IntegerTy.TheVariants.{Int, Uint}
-use Rattle.hir_types.specs.declared.ty.Ty.{Ty, Ty-F, map-Ty, ind-Ty, fold-Ty, roll-Ty, fold-roll-Ty}
 use Rattle.hir_types.specs.declared.ty.Ty.TheVariants as ty
-use Rattle.hir_types.specs.Types.{integer_type}
-use Rattle.hir_types.specs.Erasure.{erased, arg_erased, erased_step, Same, has_hole, hole_arg, hole_step, hole_bound, hole_trait, IsClosed}
-use Rattle.hir_raw.specs.declared.raw.RawType.{RawType}
 use Rattle.hir_raw.specs.declared.raw.RawType.TheVariants as type
-use Rattle.hir_raw.specs.declared.raw.RawFacts.{RawFacts}
 use Rattle.hir_facts.specs.Lawful.{IsLawful}
 use Rattle.hir_facts.specs.Standing.{HasNoHole}
 use Rattle.hir_facts.specs.LawfulFacts.{type_ids}
 use Rattle.hir_facts.specs.NoHoles.{type_there}
 use Rattle.hir_facts.specs.WrittenFits.{FitsUnder, OwnFits, own_fits, parts_fit}
-use Rattle.hir_raw.specs.WrittenTypes.{type_parts, filled_by, filled_within, written_type}
 use Rattle.hir_facts.specs.Filled.{filled_written}
-use Rattle.hir_types.specs.declared.ids.TypeAliasId.{TypeAliasId}
 
 abbrev pub carried_arg : GenericArg-F Bool Bool Bool Bool → Bool
 carried_arg (GenericArg-F.Ty b) = b

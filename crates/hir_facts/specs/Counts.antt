@@ -1,28 +1,10 @@
 -- A function has as many inputs as its body has parameters, `self` counted; what is written fits the
 -- parameters in scope; a struct or union has one variant; goals have as many arguments as their traits parameters.
 use Rattle.std.specs.Prelude.{ℕ, ◌+◌, ◌<◌, ◌≤◌, ◌≡◌, [], List, length, slice_get, Option, Some, None, IfSome}
-use Rattle.hir_types.specs.declared.ids.BindingId.{BindingId}
-use Rattle.hir_types.specs.declared.ids.BodyId.{BodyId}
-use Rattle.hir_types.specs.declared.ids.TypeRefId.{TypeRefId}
-use Rattle.hir_raw.specs.declared.raw.RawAdtKind.{RawAdtKind}
+use Rattle.hir_facts.specs.Words.{BindingId, BodyId, TypeRefId, RawAdtKind, RawAdt, RawField, RawTraitRef, RawGoal, RawTrait, RawAlias, RawAssocType, RawImpl, RawVariant, RawFn, RawBody, RawFacts, arg_types, Mention, AllMentioned}
 use Rattle.hir_raw.specs.declared.raw.RawAdtKind.TheVariants as kind
-use Rattle.hir_raw.specs.declared.raw.RawAdt.{RawAdt}
-use Rattle.hir_raw.specs.declared.raw.RawField.{RawField}
-use Rattle.hir_raw.specs.declared.raw.RawTraitRef.{RawTraitRef}
-use Rattle.hir_raw.specs.declared.raw.RawGoal.{RawGoal}
 use Rattle.hir_raw.specs.declared.raw.RawGoal.TheVariants as goal
-use Rattle.hir_raw.specs.declared.raw.RawTrait.{RawTrait}
-use Rattle.hir_raw.specs.declared.raw.RawAlias.{RawAlias}
-use Rattle.hir_raw.specs.declared.raw.RawAssocType.{RawAssocType}
-use Rattle.hir_raw.specs.declared.raw.RawImpl.{RawImpl}
-use Rattle.hir_raw.specs.declared.raw.RawVariant.{RawVariant}
-use Rattle.hir_raw.specs.declared.raw.RawFn.{RawFn}
-use Rattle.hir_raw.specs.declared.raw.RawBody.{RawBody}
-use Rattle.hir_raw.specs.declared.raw.RawFacts.{RawFacts}
-use Rattle.hir_raw.specs.Goals.{arg_types}
-use Rattle.hir_raw.specs.declared.mention.Mention.{Mention}
 use Rattle.hir_raw.specs.declared.mention.Mention.TheVariants as it
-use Rattle.hir_raw.specs.Mentions.{AllMentioned}
 use Rattle.hir_facts.specs.Standing.{params_in, wrongs_in}
 
 abbrev pub count_of : Option BindingId → ℕ

@@ -2,24 +2,13 @@
 use Rattle.std.specs.Prelude.{◌≡◌, ◌<◌, ◌++◌, ℕ, List, length, slice_get, Option, Some, flat_map, refl}
 use Rattle.std.proofs.Common.{ap, subst, sym}
 use Rattle.std.proofs.lemmas.Option.{option_and_then_some}
-use Rattle.hir_types.specs.declared.ids.ExprId.{ExprId}
-use Rattle.hir_types.specs.declared.ids.PatId.{PatId}
-use Rattle.hir_types.specs.declared.ids.BindingId.{BindingId}
-use Rattle.hir_types.specs.declared.ids.FunctionId.{FunctionId}
-use Rattle.hir_types.specs.declared.ids.VariantId.{VariantId}
-use Rattle.hir_types.specs.declared.ids.TypeRefId.{TypeRefId}
+use Rattle.hir_facts.specs.Words.{ExprId, PatId, BindingId, FunctionId, VariantId, TypeRefId, RawExpr, RawPat, RawBody, RawFacts, of_list, label_here, stmt_mentions, pat_mentions, mentions_of_expr, mentions_of_pat, Mentions, inner, stmts_of, stmt_at, binding_of, Binds}
 use Rattle.hir_types.specs.declared.ids.ExprOrPatId.TheVariants as node
 use Rattle.hir_raw.specs.declared.mention.Mention.TheVariants as it
 use Rattle.hir_raw.specs.declared.raw.RawPath.TheVariants as path
 use Rattle.hir_raw.specs.declared.raw.RawStmt.TheVariants as stmt
-use Rattle.hir_raw.specs.declared.raw.RawExpr.{RawExpr}
 use Rattle.hir_raw.specs.declared.raw.RawExpr.TheVariants as expr
-use Rattle.hir_raw.specs.declared.raw.RawPat.{RawPat}
 use Rattle.hir_raw.specs.declared.raw.RawPat.TheVariants as pat
-use Rattle.hir_raw.specs.declared.raw.RawBody.{RawBody}
-use Rattle.hir_raw.specs.declared.raw.RawFacts.{RawFacts}
-use Rattle.hir_raw.specs.Mentions.{of_list, label_here, stmt_mentions, pat_mentions, mentions_of_expr, mentions_of_pat, Mentions}
-use Rattle.hir_raw.specs.Order.{inner, stmts_of, stmt_at, binding_of, Binds}
 use Rattle.hir_facts.specs.Ids.{IsModuleFn, BodyIdsExist}
 use Rattle.hir_facts.specs.NoHoles.{In, in_last, in_flat}
 

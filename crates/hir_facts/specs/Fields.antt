@@ -2,8 +2,7 @@
 use Rattle.std.specs.Prelude.{ℕ, ◌≡◌, slice_get, Some}
 use Rattle.std.specs.Fmt.{decimal}
 use Rattle.hir_raw.specs.declared.raw.RawCtor.TheVariants as ctor
-use Rattle.hir_raw.specs.declared.raw.RawField.{RawField}
-use Rattle.hir_raw.specs.declared.raw.RawVariant.{RawVariant}
+use Rattle.hir_facts.specs.Words.{RawField, RawVariant}
 
 -- they are distinct, and those of a tuple are the numbers of their positions
 pub record NamesFit (v : RawVariant) : Type 0 where

@@ -1,21 +1,11 @@
 -- What a written type stands for where each `_` stands for a type.
 use Rattle.std.specs.Prelude.{◌≡◌, ◌≤◌, ℕ, zero, suc, max, List, [], ◌∷◌, map, slice_get, Option, Some, None, refl}
 use Rattle.std.proofs.Common.{◌∙◌, sym, ap, arith}
-use Rattle.hir_types.specs.declared.ids.TypeAliasId.{TypeAliasId}
-use Rattle.hir_types.specs.declared.ids.TypeRefId.{TypeRefId}
-use Rattle.hir_types.specs.declared.ty.IntegerTy.{IntegerTy}
+use Rattle.hir_facts.specs.Words.{TypeAliasId, TypeRefId, IntegerTy, GenericArg, Ty, Ty-F, integer_type, most, Assignment, Replacement, with_holes, replaced, args_replaced, folded, at_ty, replaced_bool, replaced_char, replaced_int, replaced_uint, replaced_tuple, replaced_adt, replaced_param, replaced_error, arg_replaced_type, map_twice, RawType, type_parts, lowered_by, written_type, filled_by, filled_within, filled_type, StandsIn, is_itself, in_part}
 use Rattle.hir_types.specs.declared.ty.IntegerTy.TheVariants.{Int, Uint}
-use Rattle.hir_types.specs.declared.ty.GenericArg.{GenericArg}
 use Rattle.hir_types.specs.declared.ty.GenericArg.TheVariants as arg
-use Rattle.hir_types.specs.declared.ty.Ty.{Ty, Ty-F}
 use Rattle.hir_types.specs.declared.ty.Ty.TheVariants as ty
-use Rattle.hir_types.specs.Types.{integer_type, most}
-use Rattle.hir_types.specs.Subst.{Assignment, Replacement, with_holes, replaced, args_replaced, folded}
-use Rattle.hir_types.specs.Replacements.{at_ty, replaced_bool, replaced_char, replaced_int, replaced_uint, replaced_tuple, replaced_adt, replaced_param, replaced_error, arg_replaced_type}
-use Rattle.hir_types.specs.Folds.{map_twice}
-use Rattle.hir_raw.specs.declared.raw.RawType.{RawType}
 use Rattle.hir_raw.specs.declared.raw.RawType.TheVariants as type
-use Rattle.hir_raw.specs.WrittenTypes.{type_parts, lowered_by, written_type, filled_by, filled_within, filled_type, StandsIn, is_itself, in_part}
 use Rattle.hir_facts.specs.Entries.{AllHold}
 use Rattle.hir_facts.specs.Ids.{ChildrenBefore}
 use Rattle.hir_facts.specs.Standing.{hole_at, most_by, most_within, most_in, HasNoHole}

@@ -1,18 +1,8 @@
 -- The ids in goals, traits, associated types and impls are in range, and traits and associated types agree.
 use Rattle.std.specs.Prelude.{ℕ, ◌<◌, ◌≡◌, List, map, length, slice_get, Option, Some, None, flat_map, IfSome}
-use Rattle.hir_types.specs.declared.ids.TypeRefId.{TypeRefId}
-use Rattle.hir_types.specs.declared.ids.TypeAliasId.{TypeAliasId}
-use Rattle.hir_raw.specs.declared.raw.RawTraitRef.{RawTraitRef}
-use Rattle.hir_raw.specs.declared.raw.RawGoal.{RawGoal}
+use Rattle.hir_facts.specs.Words.{TypeRefId, TypeAliasId, RawTraitRef, RawGoal, RawTrait, RawAlias, RawAssocType, RawImpl, RawLang, RawFacts, arg_types}
 use Rattle.hir_raw.specs.declared.raw.RawGoal.TheVariants as goal
-use Rattle.hir_raw.specs.declared.raw.RawTrait.{RawTrait}
-use Rattle.hir_raw.specs.declared.raw.RawAlias.{RawAlias}
-use Rattle.hir_raw.specs.declared.raw.RawAssocType.{RawAssocType}
-use Rattle.hir_raw.specs.declared.raw.RawImpl.{RawImpl}
-use Rattle.hir_raw.specs.declared.raw.RawLang.{RawLang}
 use Rattle.hir_raw.specs.declared.raw.RawLang.TheVariants as lang
-use Rattle.hir_raw.specs.declared.raw.RawFacts.{RawFacts}
-use Rattle.hir_raw.specs.Goals.{arg_types}
 use Rattle.hir_facts.specs.Named.{NamedOnce}
 
 abbrev pub TypesExist : RawFacts → List TypeRefId → Type 0

@@ -1,27 +1,10 @@
 -- Ids are in range, and smaller where a list asks for it; each body is that of one definition.
 use Rattle.std.specs.Prelude.{ℕ, ◌<◌, ◌≡◌, List, ◌++◌, map, length, slice_get, Option, Some, option_map, flat_map, IfSome}
-use Rattle.hir_types.specs.declared.ids.ModuleId.{ModuleId}
-use Rattle.hir_types.specs.declared.ids.FunctionId.{FunctionId}
-use Rattle.hir_types.specs.declared.ids.TypeRefId.{TypeRefId}
-use Rattle.hir_types.specs.declared.ids.VariantId.{VariantId}
-use Rattle.hir_types.specs.declared.ids.TraitId.{TraitId}
-use Rattle.hir_raw.specs.declared.raw.RawType.{RawType}
+use Rattle.hir_facts.specs.Words.{ModuleId, FunctionId, TypeRefId, VariantId, TraitId, RawType, RawAt, RawVis, RawFn, RawAdt, RawField, RawVariant, RawBody, RawFacts, Mention, PartsFit, AllMentioned, type_parts}
 use Rattle.hir_raw.specs.declared.raw.RawType.TheVariants as type
-use Rattle.hir_raw.specs.declared.raw.RawAt.{RawAt}
 use Rattle.hir_raw.specs.declared.raw.RawAt.TheVariants as stands
-use Rattle.hir_raw.specs.declared.raw.RawVis.{RawVis}
 use Rattle.hir_raw.specs.declared.raw.RawVis.TheVariants as vis
-use Rattle.hir_raw.specs.declared.raw.RawFn.{RawFn}
-use Rattle.hir_raw.specs.declared.raw.RawAdt.{RawAdt}
-use Rattle.hir_raw.specs.declared.raw.RawField.{RawField}
-use Rattle.hir_raw.specs.declared.raw.RawVariant.{RawVariant}
-use Rattle.hir_raw.specs.declared.raw.RawBody.{RawBody}
-use Rattle.hir_raw.specs.declared.raw.RawFacts.{RawFacts}
-use Rattle.hir_raw.specs.declared.mention.Mention.{Mention}
 use Rattle.hir_raw.specs.declared.mention.Mention.TheVariants as it
-use Rattle.hir_raw.specs.Order.{PartsFit}
-use Rattle.hir_raw.specs.Mentions.{AllMentioned}
-use Rattle.hir_raw.specs.WrittenTypes.{type_parts}
 use Rattle.hir_facts.specs.Named.{NamedOnce}
 use Rattle.hir_facts.specs.GoalIds.{GoalsExist}
 

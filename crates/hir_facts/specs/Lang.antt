@@ -1,10 +1,7 @@
 -- The language's items have the shape that they are known by.
 use Rattle.std.specs.Prelude.{◌≡◌, [], slice_get, Some}
-use Rattle.hir_types.specs.declared.ids.TraitId.{TraitId}
-use Rattle.hir_raw.specs.declared.raw.RawTrait.{RawTrait}
-use Rattle.hir_raw.specs.declared.raw.RawLang.{RawLang}
+use Rattle.hir_facts.specs.Words.{TraitId, RawTrait, RawLang, RawFacts}
 use Rattle.hir_raw.specs.declared.raw.RawLang.TheVariants as lang
-use Rattle.hir_raw.specs.declared.raw.RawFacts.{RawFacts}
 
 -- the trait has no parameters of its own
 abbrev pub HasNoParams : RawFacts → TraitId → Type 0

@@ -1,6 +1,6 @@
 -- The laws in the order in which they are tested, and which is broken first.
 use Rattle.std.specs.Prelude.{◌≡◌, ◌⊎◌, ℕ, List, [], ◌∷◌, ◌++◌, IsTrue}
-use Rattle.hir_raw.specs.declared.raw.RawFacts.{RawFacts}
+use Rattle.hir_facts.specs.Words.{RawFacts}
 use Rattle.hir_facts.specs.declared.laws.Law.{Law}
 use Rattle.hir_facts.specs.declared.laws.Law.TheVariants as law
 use Rattle.hir_facts.specs.declared.laws.FactsList.{FactsList}

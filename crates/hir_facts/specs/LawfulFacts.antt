@@ -1,6 +1,6 @@
 -- What laws say of lawful facts, list by list.
 use Rattle.std.specs.Prelude.{IsTrue}
-use Rattle.hir_raw.specs.declared.raw.RawFacts.{RawFacts}
+use Rattle.hir_facts.specs.Words.{RawFacts}
 use Rattle.hir_facts.specs.Entries.{AllHold}
 use Rattle.hir_facts.specs.Carried.{is_carried_written_type, is_carried_variant, is_carried_fn, is_carried_body}
 use Rattle.hir_facts.specs.Projections.{VariantIsCarried}

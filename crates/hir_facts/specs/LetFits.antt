@@ -2,14 +2,8 @@
 use Rattle.std.specs.Prelude.{◌≡◌, ◌<◌, ℕ, Bool, true, false, List, slice_get, Option, Some, None, refl, IsTrue}
 use Rattle.std.specs.Option.{option_map}
 use Rattle.std.proofs.Common.{ap, sym, subst, ◌∙◌}
-use Rattle.hir_types.specs.declared.ids.TypeRefId.{TypeRefId}
-use Rattle.hir_raw.specs.declared.raw.RawFacts.{RawFacts}
-use Rattle.hir_raw.specs.declared.raw.RawType.{RawType}
+use Rattle.hir_facts.specs.Words.{TypeRefId, RawFacts, RawType, is_alias, masked_type, masked, masked_at, alias_is_hole, other_is_itself, type_parts}
 use Rattle.hir_raw.specs.declared.raw.RawType.TheVariants as type
-use Rattle.hir_raw.specs.Hidden.{is_alias}
-use Rattle.hir_raw.specs.Lets.{masked_type, masked}
-use Rattle.hir_raw.specs.Masked.{masked_at, alias_is_hole, other_is_itself}
-use Rattle.hir_raw.specs.WrittenTypes.{type_parts}
 use Rattle.hir_facts.specs.Carried.{is_carried_written_type}
 use Rattle.hir_facts.specs.Entries.{AllHold}
 use Rattle.hir_facts.specs.Ids.{ChildrenBefore}

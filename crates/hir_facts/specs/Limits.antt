@@ -1,6 +1,6 @@
 -- The limits are in their ranges.
 use Rattle.std.specs.Prelude.{ℕ, zero, suc, ◌≤◌, List, [], ◌∷◌}
-use Rattle.hir_raw.specs.declared.raw.RawFacts.{RawFacts}
+use Rattle.hir_facts.specs.Words.{RawFacts}
 
 -- goal depth, goal steps, autoderef, tail
 abbrev pub limits_of : RawFacts → List ℕ

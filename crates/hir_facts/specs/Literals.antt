@@ -1,13 +1,10 @@
 -- Literals stand for values of at most 128 bits, and characters are scalar values.
 use Rattle.std.specs.Prelude.{ℕ, ◌+◌, ◌-◌, ◌*◌, ◌<◌, ◌^◌, ◌≡◌, ◌==◌, ◌⊎◌, ◌&&◌, List, [], ◌∷◌, slice_get, Option, Some, None, nat_le, if◌then◌else◌, IsSomeAnd, fold}
 use Rattle.std.specs.Char.{IsScalar}
-use Rattle.hir_raw.specs.declared.raw.RawLiteral.{RawLiteral}
+use Rattle.hir_facts.specs.Words.{RawLiteral, ExprId, RawExpr, RawBody}
 use Rattle.hir_raw.specs.declared.raw.RawLiteral.TheVariants as literal
-use Rattle.hir_types.specs.declared.ids.ExprId.{ExprId}
-use Rattle.hir_raw.specs.declared.raw.RawExpr.{RawExpr}
 use Rattle.hir_raw.specs.declared.raw.RawExpr.TheVariants as expr
 use Rattle.hir_raw.specs.declared.raw.RawPat.TheVariants as pat
-use Rattle.hir_raw.specs.declared.raw.RawBody.{RawBody}
 
 -- the number so far, with one digit more
 abbrev pub and_digit : Option ℕ → ℕ → Option ℕ

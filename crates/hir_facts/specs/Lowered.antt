@@ -2,15 +2,10 @@
 use Rattle.std.specs.Prelude.{◌≡◌, ◌<◌, ◌≤◌, ℕ, length, zero, suc, List, [], ◌∷◌, map, slice_get, Option, Some, None, option_map, refl}
 use Rattle.std.proofs.Common.{◌∙◌, ap, sym, subst, arith}
 use Rattle.std.proofs.lemmas.Option.{slice_get_past}
-use Rattle.hir_types.specs.declared.ids.TypeRefId.{TypeRefId}
-use Rattle.hir_raw.specs.declared.raw.RawType.{RawType}
+use Rattle.hir_facts.specs.Words.{TypeRefId, RawType, Ty, type_parts, filled_by, filled_within, filled, lowered_by, lowered, opened_type, opened, opened_at, opened_length, opened_parts}
 use Rattle.hir_raw.specs.declared.raw.RawType.TheVariants as type
-use Rattle.hir_types.specs.declared.ty.Ty.{Ty}
 use Rattle.hir_types.specs.declared.ty.Ty.TheVariants as ty
 use Rattle.hir_types.specs.declared.ty.GenericArg.TheVariants as arg
-use Rattle.hir_raw.specs.WrittenTypes.{type_parts, filled_by, filled_within, filled, lowered_by, lowered}
-use Rattle.hir_raw.specs.Hidden.{opened_type, opened}
-use Rattle.hir_raw.specs.Opened.{opened_at, opened_length, opened_parts}
 use Rattle.hir_facts.specs.Entries.{AllHold}
 use Rattle.hir_facts.specs.Ids.{ChildrenBefore}
 

@@ -1,10 +1,7 @@
 -- The greatest number in a written type, part by part.
 use Rattle.std.specs.Prelude.{◌≡◌, ◌<◌, ◌≤◌, ℕ, zero, suc, max, List, [], ◌∷◌, map, slice_get, Option, Some, None, refl}
 use Rattle.std.proofs.Common.{◌∙◌, ap, arith}
-use Rattle.hir_types.specs.declared.ids.TypeRefId.{TypeRefId}
-use Rattle.hir_types.specs.Types.{most}
-use Rattle.hir_raw.specs.declared.raw.RawType.{RawType}
-use Rattle.hir_raw.specs.WrittenTypes.{type_parts}
+use Rattle.hir_facts.specs.Words.{TypeRefId, most, RawType, type_parts}
 use Rattle.hir_facts.specs.Entries.{AllHold}
 use Rattle.hir_facts.specs.Ids.{ChildrenBefore}
 use Rattle.hir_facts.specs.Standing.{most_by, most_within, most_in}

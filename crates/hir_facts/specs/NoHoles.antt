@@ -1,14 +1,8 @@
 -- No `_` stands in a type that an item is written with, as that of a field, an input or an output.
 use Rattle.std.specs.Prelude.{◌≡◌, ◌<◌, ◌++◌, ℕ, zero, suc, List, [], ◌∷◌, map, length, slice_get, Option, Some, None, flat_map, refl}
 use Rattle.std.proofs.Common.{arith, inl, inr}
-use Rattle.hir_types.specs.declared.ids.TypeRefId.{TypeRefId}
-use Rattle.hir_types.specs.declared.ids.DefWithBodyId.{DefWithBodyId}
+use Rattle.hir_facts.specs.Words.{TypeRefId, DefWithBodyId, RawType, RawField, RawVariant, RawFn, RawFacts}
 use Rattle.hir_types.specs.declared.ids.DefWithBodyId.TheVariants as def
-use Rattle.hir_raw.specs.declared.raw.RawType.{RawType}
-use Rattle.hir_raw.specs.declared.raw.RawField.{RawField}
-use Rattle.hir_raw.specs.declared.raw.RawVariant.{RawVariant}
-use Rattle.hir_raw.specs.declared.raw.RawFn.{RawFn}
-use Rattle.hir_raw.specs.declared.raw.RawFacts.{RawFacts}
 use Rattle.hir_facts.specs.Bodies.{inputs_by, inputs_of}
 use Rattle.hir_facts.specs.Standing.{HasNoHole}
 use Rattle.hir_facts.specs.Uses.{variant_uses, fn_uses, abstract_uses, item_uses}

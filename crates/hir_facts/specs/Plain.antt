@@ -1,42 +1,19 @@
 -- Plain types, adts, functions and bodies: those of structs, enums, tuples and the types that have no parts.
 use Rattle.std.specs.Prelude.{◌≡◌, ◌<◌, ℕ, Bool, true, false, ◌&&◌, List, [], map, length, slice_get, Option, Some, None, flat_map, IsTrue, IsSomeAnd, is_none, not, if◌then◌else◌}
 use Rattle.std.specs.List.{list_all, list_any}
-use Rattle.hir_types.specs.declared.ids.TypeRefId.{TypeRefId}
-use Rattle.hir_types.specs.declared.ids.VariantId.{VariantId}
-use Rattle.hir_types.specs.declared.ids.FunctionId.{FunctionId}
-use Rattle.hir_types.specs.declared.ids.ExprId.{ExprId}
-use Rattle.hir_types.specs.declared.ids.ExprOrPatId.{ExprOrPatId}
+use Rattle.hir_facts.specs.Words.{TypeRefId, VariantId, FunctionId, ExprId, ExprOrPatId, DefWithBodyId, RawType, RawAdtKind, RawAdt, RawCtor, RawVariant, RawFn, RawLiteral, RawPath, RawStmt, RawExpr, RawPat, BindingAnnotation, RawBinding, RawBody, RawFacts, type_parts, adt_params, has_params, params_of, Role, callee, Part, Node, IsNode, part_at}
 use Rattle.hir_types.specs.declared.ids.ExprOrPatId.TheVariants as node
-use Rattle.hir_types.specs.declared.ids.DefWithBodyId.{DefWithBodyId}
 use Rattle.hir_types.specs.declared.ids.DefWithBodyId.TheVariants as def
-use Rattle.hir_raw.specs.declared.raw.RawType.{RawType}
 use Rattle.hir_raw.specs.declared.raw.RawType.TheVariants as type
-use Rattle.hir_raw.specs.declared.raw.RawAdtKind.{RawAdtKind}
 use Rattle.hir_raw.specs.declared.raw.RawAdtKind.TheVariants as kind
-use Rattle.hir_raw.specs.declared.raw.RawAdt.{RawAdt}
-use Rattle.hir_raw.specs.declared.raw.RawCtor.{RawCtor}
 use Rattle.hir_raw.specs.declared.raw.RawCtor.TheVariants as ctor
-use Rattle.hir_raw.specs.declared.raw.RawVariant.{RawVariant}
-use Rattle.hir_raw.specs.declared.raw.RawFn.{RawFn}
-use Rattle.hir_raw.specs.declared.raw.RawLiteral.{RawLiteral}
 use Rattle.hir_raw.specs.declared.raw.RawLiteral.TheVariants as literal
-use Rattle.hir_raw.specs.declared.raw.RawPath.{RawPath}
 use Rattle.hir_raw.specs.declared.raw.RawPath.TheVariants as path
-use Rattle.hir_raw.specs.declared.raw.RawStmt.{RawStmt}
 use Rattle.hir_raw.specs.declared.raw.RawStmt.TheVariants as stmt
-use Rattle.hir_raw.specs.declared.raw.RawExpr.{RawExpr}
 use Rattle.hir_raw.specs.declared.raw.RawExpr.TheVariants as expr
-use Rattle.hir_raw.specs.declared.raw.RawPat.{RawPat}
 use Rattle.hir_raw.specs.declared.raw.RawPat.TheVariants as pat
-use Rattle.hir_raw.specs.declared.raw.BindingAnnotation.{BindingAnnotation}
 use Rattle.hir_raw.specs.declared.raw.BindingAnnotation.TheVariants as mode
-use Rattle.hir_raw.specs.declared.raw.RawBinding.{RawBinding}
-use Rattle.hir_raw.specs.declared.raw.RawBody.{RawBody}
-use Rattle.hir_raw.specs.declared.raw.RawFacts.{RawFacts}
-use Rattle.hir_raw.specs.WrittenTypes.{type_parts}
 use Rattle.hir_facts.specs.Bodies.{body_of}
-use Rattle.hir_raw.specs.Scope.{adt_params, has_params, params_of}
-use Rattle.hir_raw.specs.Order.{Role, callee, Part, Node, IsNode, part_at}
 use Rattle.hir_facts.specs.Carried.{is_empty, is_type_param, is_in_module}
 use Rattle.hir_facts.specs.Entries.{AllHold}
 use Rattle.hir_facts.specs.Sized.{is_sized_of, is_sized_pred}

@@ -1,16 +1,9 @@
 -- What is looked at in a body: what its expressions are made of, kind by kind, and the written types.
 use Rattle.std.specs.Prelude.{ℕ, Bool, true, ◌&&◌, Option, Some, None, IsTrue, not}
 use Rattle.std.specs.List.{list_all}
-use Rattle.hir_types.specs.declared.ids.TypeRefId.{TypeRefId}
-use Rattle.hir_types.specs.declared.ids.ExprId.{ExprId}
-use Rattle.hir_raw.specs.declared.raw.RawStmt.{RawStmt}
+use Rattle.hir_facts.specs.Words.{TypeRefId, ExprId, RawStmt, RawArm, RawExpr, RawBody, RawFacts, stmts_of}
 use Rattle.hir_raw.specs.declared.raw.RawStmt.TheVariants as stmt
-use Rattle.hir_raw.specs.declared.raw.RawArm.{RawArm}
-use Rattle.hir_raw.specs.declared.raw.RawExpr.{RawExpr}
 use Rattle.hir_raw.specs.declared.raw.RawExpr.TheVariants as expr
-use Rattle.hir_raw.specs.declared.raw.RawBody.{RawBody}
-use Rattle.hir_raw.specs.declared.raw.RawFacts.{RawFacts}
-use Rattle.hir_raw.specs.Order.{stmts_of}
 use Rattle.hir_facts.specs.WrittenFits.{FitsThere}
 use Rattle.hir_facts.specs.Entries.{AllHold}
 use Rattle.hir_facts.specs.Plain.{is_item_at, IsPlainExpr, IsPlainPat}

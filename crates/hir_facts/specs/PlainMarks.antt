@@ -1,8 +1,6 @@
 -- The marks of the written types, adts and functions that are plain.
 use Rattle.std.specs.Prelude.{◌≡◌, ◌↔◌, ◌+◌, ℕ, Bool, true, false, List, length, get_or, slice_get, Some}
-use Rattle.hir_types.specs.declared.ids.TypeRefId.{TypeRefId}
-use Rattle.hir_raw.specs.declared.raw.RawFn.{RawFn}
-use Rattle.hir_raw.specs.declared.raw.RawFacts.{RawFacts}
+use Rattle.hir_facts.specs.Words.{TypeRefId, RawFn, RawFacts}
 use Rattle.hir_facts.specs.declared.plain_marks.PlainMarks.{PlainMarks}
 use Rattle.hir_facts.specs.WrittenFits.{FitsThere}
 use Rattle.hir_facts.specs.Plain.{IsPlainOver, IsPlainAdt, IsPlainSignature}

@@ -1,12 +1,7 @@
 -- Types without holes that are plain: those that plain written types stand for.
 use Rattle.std.specs.Prelude.{◌≡◌, ◌<◌, ℕ, List, length, slice_get, Some, IsTrue}
-use Rattle.hir_types.specs.declared.ids.AdtId.{AdtId}
-use Rattle.hir_types.specs.declared.ty.IntegerTy.{IntegerTy}
-use Rattle.hir_types.specs.declared.ty.Ty.{Ty}
+use Rattle.hir_facts.specs.Words.{AdtId, IntegerTy, Ty, integer_type, Scope, adt_params, has_params, type_args}
 use Rattle.hir_types.specs.declared.ty.Ty.TheVariants as ty
-use Rattle.hir_types.specs.Types.{integer_type}
-use Rattle.hir_raw.specs.Scope.{Scope, adt_params, has_params}
-use Rattle.hir_raw.specs.Signatures.{type_args}
 use Rattle.hir_facts.specs.Plain.{IsPlainAdt}
 
 -- `bool`, `char`, an integer, a tuple of plain types, a plain adt at as many plain types as it has

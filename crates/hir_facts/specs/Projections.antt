@@ -1,15 +1,8 @@
 -- Where projections may stand: in goals, impls and other projections, in what a function or a constructor takes or gives, and in the types of `let`s.
 -- Fields that a variant `V` lists hold none.
 use Rattle.std.specs.Prelude.{ℕ, ◌≡◌, ◌<◌, List, slice_get, Some, IsTrue}
-use Rattle.hir_types.specs.declared.ids.TypeRefId.{TypeRefId}
+use Rattle.hir_facts.specs.Words.{TypeRefId, RawType, RawField, RawVariant, RawFn, RawFacts, is_alias, type_parts}
 use Rattle.hir_raw.specs.declared.raw.RawCtor.TheVariants as ctor
-use Rattle.hir_raw.specs.declared.raw.RawType.{RawType}
-use Rattle.hir_raw.specs.declared.raw.RawField.{RawField}
-use Rattle.hir_raw.specs.declared.raw.RawVariant.{RawVariant}
-use Rattle.hir_raw.specs.declared.raw.RawFn.{RawFn}
-use Rattle.hir_raw.specs.declared.raw.RawFacts.{RawFacts}
-use Rattle.hir_raw.specs.Hidden.{is_alias}
-use Rattle.hir_raw.specs.WrittenTypes.{type_parts}
 use Rattle.hir_facts.specs.Carried.{is_carried_variant}
 
 -- a projection stands in type t: it is one, or a type before it that it is made of holds one

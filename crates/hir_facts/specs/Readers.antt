@@ -1,8 +1,7 @@
 -- What the readers of the facts give where that is no field.
 use Rattle.std.specs.Prelude.{ℕ, List, [], ◌∷◌}
-use Rattle.hir_raw.specs.declared.raw.Edition.{Edition}
+use Rattle.hir_facts.specs.Words.{Edition, RawLimits}
 use Rattle.hir_raw.specs.declared.raw.Edition.TheVariants as edition
-use Rattle.hir_raw.specs.declared.raw.RawLimits.{RawLimits}
 
 abbrev pub edition_year : Edition → ℕ
 edition_year edition.Edition2015 = 2015

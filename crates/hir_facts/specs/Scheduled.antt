@@ -1,8 +1,6 @@
 -- The numbers of each body.
 use Rattle.std.specs.Prelude.{ℕ, ◌≡◌, List, length, slice_get, Some}
-use Rattle.hir_raw.specs.declared.raw.RawBody.{RawBody}
-use Rattle.hir_raw.specs.declared.schedule.Schedule.{Schedule}
-use Rattle.hir_raw.specs.Order.{IsSchedule, AreDepths}
+use Rattle.hir_facts.specs.Words.{RawBody, Schedule, IsSchedule, AreDepths}
 
 -- one each, in the order of the bodies
 pub record AreSchedules (bodies : List RawBody) (schedules : List Schedule) : Type 0 where

@@ -1,12 +1,7 @@
 -- A local names a binding that the walk has come to before.
 use Rattle.std.specs.Prelude.{◌<◌}
-use Rattle.hir_types.specs.declared.ids.BindingId.{BindingId}
-use Rattle.hir_raw.specs.declared.mention.Mention.{Mention}
+use Rattle.hir_facts.specs.Words.{BindingId, Mention, RawBody, Schedule, Mentions, AllMentioned, IsSchedule, IsLow, Node, start}
 use Rattle.hir_raw.specs.declared.mention.Mention.TheVariants as it
-use Rattle.hir_raw.specs.declared.raw.RawBody.{RawBody}
-use Rattle.hir_raw.specs.declared.schedule.Schedule.{Schedule}
-use Rattle.hir_raw.specs.Mentions.{Mentions, AllMentioned}
-use Rattle.hir_raw.specs.Order.{IsSchedule, IsLow, Node, start}
 
 -- a node that comes before n binds v: its pattern, or the body, where v is `self`
 abbrev pub IsBoundBefore : RawBody → Schedule → Node → BindingId → Type 0

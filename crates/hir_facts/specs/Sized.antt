@@ -1,22 +1,11 @@
 -- Predicates that say that a type parameter has a size, and structs whose size is seen without associated types.
 use Rattle.std.specs.Prelude.{ℕ, ◌==◌, ◌&&◌, nat_lt, Bool, true, false, List, [], ◌∷◌, slice_get, Option, Some, None, if◌then◌else◌}
 use Rattle.std.specs.List.{list_all, list_any}
-use Rattle.hir_types.specs.declared.ids.TraitId.{TraitId}
-use Rattle.hir_types.specs.declared.ids.TypeRefId.{TypeRefId}
-use Rattle.hir_types.specs.declared.ids.VariantId.{VariantId}
-use Rattle.hir_raw.specs.declared.raw.RawAdt.{RawAdt}
-use Rattle.hir_raw.specs.declared.raw.RawAdtKind.{RawAdtKind}
+use Rattle.hir_facts.specs.Words.{TraitId, TypeRefId, VariantId, RawAdt, RawAdtKind, RawVariant, RawType, RawGoal, RawLang, RawFacts, arg_types, is_sized_lang, variant_aliases}
 use Rattle.hir_raw.specs.declared.raw.RawAdtKind.TheVariants as kind
-use Rattle.hir_raw.specs.declared.raw.RawVariant.{RawVariant}
-use Rattle.hir_raw.specs.declared.raw.RawType.{RawType}
 use Rattle.hir_raw.specs.declared.raw.RawType.TheVariants as type
-use Rattle.hir_raw.specs.declared.raw.RawGoal.{RawGoal}
 use Rattle.hir_raw.specs.declared.raw.RawGoal.TheVariants as goal
-use Rattle.hir_raw.specs.declared.raw.RawLang.{RawLang}
 use Rattle.hir_raw.specs.declared.raw.RawLang.TheVariants as lang
-use Rattle.hir_raw.specs.declared.raw.RawFacts.{RawFacts}
-use Rattle.hir_raw.specs.Goals.{arg_types, is_sized_lang}
-use Rattle.hir_raw.specs.Hidden.{variant_aliases}
 use Rattle.hir_facts.specs.Carried.{is_empty}
 
 -- no item but the trait has this name

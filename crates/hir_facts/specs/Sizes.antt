@@ -1,23 +1,8 @@
 -- How long lists may be, and how deep trees and types.
 use Rattle.std.specs.Prelude.{ℕ, ◌<◌, ◌≤◌, ◌^◌, ◌≡◌, List, length, slice_get, Some, IfSome}
-use Rattle.hir_raw.specs.declared.raw.RawType.{RawType}
-use Rattle.hir_raw.specs.declared.mention.Mention.{Mention}
+use Rattle.hir_facts.specs.Words.{RawType, Mention, RawGoal, RawTrait, RawAlias, RawImpl, RawAdt, RawVariant, RawFn, RawBody, RawFacts, arg_types, AllMentioned, IsLow, depth, size, type_parts, lowered}
 use Rattle.hir_raw.specs.declared.mention.Mention.TheVariants as it
-use Rattle.hir_raw.specs.declared.raw.RawGoal.{RawGoal}
 use Rattle.hir_raw.specs.declared.raw.RawGoal.TheVariants as goal
-use Rattle.hir_raw.specs.declared.raw.RawTrait.{RawTrait}
-use Rattle.hir_raw.specs.declared.raw.RawAlias.{RawAlias}
-use Rattle.hir_raw.specs.declared.raw.RawImpl.{RawImpl}
-use Rattle.hir_raw.specs.declared.raw.RawAdt.{RawAdt}
-use Rattle.hir_raw.specs.declared.raw.RawVariant.{RawVariant}
-use Rattle.hir_raw.specs.declared.raw.RawFn.{RawFn}
-use Rattle.hir_raw.specs.declared.raw.RawBody.{RawBody}
-use Rattle.hir_raw.specs.declared.raw.RawFacts.{RawFacts}
-use Rattle.hir_raw.specs.Goals.{arg_types}
-use Rattle.hir_raw.specs.Mentions.{AllMentioned}
-use Rattle.hir_raw.specs.Order.{IsLow}
-use Rattle.hir_types.specs.Types.{depth, size}
-use Rattle.hir_raw.specs.WrittenTypes.{type_parts, lowered}
 
 -- a list of at most 2 ^ 20 entries
 abbrev pub IsShort : {A : Type 0} → List A → Type 0

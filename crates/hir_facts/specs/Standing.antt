@@ -1,13 +1,7 @@
 -- What stands in written types, of each by what stands in its parts.
 use Rattle.std.specs.Prelude.{ℕ, zero, suc, ◌+◌, ◌<◌, ◌≡◌, ◌==◌, max, List, length, map, slice_get, Option, Some, None, if◌then◌else◌}
-use Rattle.hir_types.specs.declared.ids.TypeRefId.{TypeRefId}
-use Rattle.hir_types.specs.Types.{most}
-use Rattle.hir_raw.specs.declared.raw.RawType.{RawType}
+use Rattle.hir_facts.specs.Words.{TypeRefId, most, RawType, RawAdt, RawFacts, alias_params_by, has_params, type_parts}
 use Rattle.hir_raw.specs.declared.raw.RawType.TheVariants as type
-use Rattle.hir_raw.specs.declared.raw.RawAdt.{RawAdt}
-use Rattle.hir_raw.specs.declared.raw.RawFacts.{RawFacts}
-use Rattle.hir_raw.specs.Scope.{alias_params_by, has_params}
-use Rattle.hir_raw.specs.WrittenTypes.{type_parts}
 
 -- the greatest number at a type and at all that stands in it, where that of type t of the list is f t
 abbrev pub most_by : (RawType → ℕ) → (ℕ → ℕ) → Option RawType → ℕ

@@ -1,9 +1,7 @@
 -- The nodes of a body are a tree, and each binding is bound once.
 use Rattle.std.specs.Prelude.{◌≡◌, ◌<◌, ◌⊎◌, length, Some}
-use Rattle.hir_types.specs.declared.ids.BindingId.{BindingId}
-use Rattle.hir_types.specs.declared.ids.PatId.{PatId}
-use Rattle.hir_raw.specs.declared.raw.RawBody.{RawBody}
-use Rattle.hir_raw.specs.Order.{IsTree, Binds}
+use Rattle.hir_facts.specs.Words.{BindingId, PatId, RawBody, Binds}
+use Rattle.hir_raw.specs.Order.{IsTree}
 
 -- by `self` alone
 pub record BoundBySelf (b : RawBody) (v : BindingId) : Type 0 where

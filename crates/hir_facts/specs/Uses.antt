@@ -1,19 +1,8 @@
 -- Where written types are used, and what becomes of a `_`.
 use Rattle.std.specs.Prelude.{ℕ, ◌≡◌, ◌⊎◌, ◌++◌, List, [], ◌∷◌, map, Option, Some, None, flat_map}
-use Rattle.hir_raw.specs.declared.raw.RawType.{RawType}
-use Rattle.hir_raw.specs.declared.raw.RawVariant.{RawVariant}
-use Rattle.hir_raw.specs.declared.raw.RawFn.{RawFn}
-use Rattle.hir_raw.specs.declared.mention.Mention.{Mention}
+use Rattle.hir_facts.specs.Words.{RawType, RawVariant, RawFn, Mention, RawBody, RawFacts, RawTraitRef, RawGoal, RawImpl, arg_types, type_parts, body_said}
 use Rattle.hir_raw.specs.declared.mention.Mention.TheVariants as it
-use Rattle.hir_raw.specs.declared.raw.RawBody.{RawBody}
-use Rattle.hir_raw.specs.declared.raw.RawFacts.{RawFacts}
-use Rattle.hir_raw.specs.declared.raw.RawTraitRef.{RawTraitRef}
-use Rattle.hir_raw.specs.declared.raw.RawGoal.{RawGoal}
 use Rattle.hir_raw.specs.declared.raw.RawGoal.TheVariants as goal
-use Rattle.hir_raw.specs.declared.raw.RawImpl.{RawImpl}
-use Rattle.hir_raw.specs.Goals.{arg_types}
-use Rattle.hir_raw.specs.WrittenTypes.{type_parts}
-use Rattle.hir_raw.specs.Mentions.{body_said}
 use Rattle.hir_facts.specs.Named.{NamedOnce, IsUnnamed}
 use Rattle.hir_facts.specs.Standing.{holes_in}
 

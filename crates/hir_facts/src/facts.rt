@@ -1,15 +1,7 @@
 //! Lawful facts.
 ghost use Rattle.std.specs.Prelude.{◌≡◌, ◌↔◌, ◌<◌, ℕ, IsTrue, Some, slice_get, length};
-ghost use Rattle.hir_raw.specs.declared.raw.RawBody.{RawBody};
-ghost use Rattle.hir_raw.specs.Order.{AreDepths};
-ghost use Rattle.hir_facts.specs.Bodies.{IsWalkable, HasBody, body_id_of, inputs_of};
-ghost use Rattle.hir_facts.specs.WrittenFits.{FitsThere};
-ghost use Rattle.hir_facts.specs.Lawful.{IsLawful};
-ghost use Rattle.hir_facts.specs.Scheduled.{AreSchedules};
-ghost use Rattle.hir_facts.specs.PlainMarks.{ArePlainMarks};
-ghost use Rattle.hir_raw.specs.Fit.{fits};
-ghost use Rattle.hir_facts.specs.Plain.{IsPlainAdt, IsPlainOver, IsPlainFn};
-ghost use Rattle.hir_facts.specs.Readers.{edition_year, limits_in_order};
+ghost use Rattle.hir_facts.specs.Words.{RawBody, AreDepths, fits};
+ghost use Rattle.hir_facts.specs.Own.{IsWalkable, HasBody, body_id_of, inputs_of, FitsThere, IsLawful, AreSchedules, ArePlainMarks, IsPlainAdt, IsPlainOver, IsPlainFn, edition_year, limits_in_order};
 
 use crate::plain_marks::{PlainMarks, mark_at};
 use hir_raw::{
@@ -31,7 +23,7 @@ pub struct Facts {
 }
 
 impl Model for Facts {
-    ghost use Rattle.hir_raw.specs.declared.raw.RawFacts.{RawFacts};
+    ghost use Rattle.hir_facts.specs.Words.{RawFacts};
 
     ghost Value = { RawFacts };
 

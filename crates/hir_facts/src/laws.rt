@@ -1,6 +1,6 @@
 //! The laws of facts, and the lists that they speak of.
 ghost use Rattle.std.specs.Prelude.{◌≡◌};
-ghost use Rattle.hir_facts.specs.Names.{law_number, list_number};
+ghost use Rattle.hir_facts.specs.Own.{law_number, list_number};
 
 /// A law of facts, in the order in which they are tested.
 #[derive(Clone, Copy, Debug, PartialEq, Eq)]

@@ -9,6 +9,7 @@ mod plain_marks;
 mod sized;
 
 pub use facts::Facts;
+pub use hir_raw;
 pub use hir_raw::{
     BindingAnnotation, Edition, Other, RawAdt, RawAdtKind, RawAlias, RawArgs, RawArm, RawAssocType,
     RawAt, RawBinding, RawBody, RawCtor, RawExpr, RawFacts, RawField, RawFn, RawGoal, RawImpl,

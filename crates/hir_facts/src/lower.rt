@@ -1,11 +1,8 @@
 //! What written types stand for.
 ghost use Rattle.std.specs.Prelude.{◌≡◌, ◌<◌, ◌+◌, IfOk, length};
 ghost use Rattle.hir_types.specs.declared.ty.Ty.TheVariants as ty;
-ghost use Rattle.hir_raw.specs.Hidden.{place_in, opened};
-ghost use Rattle.hir_raw.specs.WrittenTypes.{lowered, written_type};
-ghost use Rattle.hir_facts.specs.Bodies.{HasBody, return_type};
-ghost use Rattle.hir_facts.specs.Entries.{AllHold};
-ghost use Rattle.hir_facts.specs.Ids.{ChildrenBefore};
+ghost use Rattle.hir_facts.specs.Words.{place_in, opened, lowered, written_type};
+ghost use Rattle.hir_facts.specs.Own.{HasBody, return_type, AllHold, ChildrenBefore};
 
 use crate::facts::Facts;
 use hir_raw::RawType;
@@ -83,7 +80,7 @@ fn lower(
 }
 
 /// The type that a written type stands for, or `{unknown}` where it is not in range.
-#[tactic(auto, using(hir_raw::specs::Opened::none_opened))]
+#[tactic(auto, using(crate::specs::Words::none_opened))]
 pub fn lower_ty(alloc: Global, facts: &Facts, ty: TypeRefId) -> Result<Ty, AllocError>
     ensures { IfOk result (λ t. t ≡ written_type facts.now.types ty) }
 {

@@ -1,13 +1,9 @@
 //! Whether the body of a definition is plain.
 ghost use Rattle.std.specs.Prelude.{◌≡◌, ◌↔◌, ℕ, Some, slice_get, IsSomeAnd, IsTrue};
 ghost use Rattle.std.specs.List.{list_all};
-ghost use Rattle.hir_types.specs.declared.ids.FunctionId.{FunctionId};
+ghost use Rattle.hir_facts.specs.Words.{FunctionId, params_of};
 ghost use Rattle.hir_types.specs.declared.ids.DefWithBodyId.TheVariants.{FunctionId as fn_def};
-ghost use Rattle.hir_facts.specs.Bodies.{body_of};
-ghost use Rattle.hir_raw.specs.Scope.{params_of};
-ghost use Rattle.hir_facts.specs.Entries.{AllHold};
-ghost use Rattle.hir_facts.specs.Plain.{is_unit_ctor, is_tuple_ctor, is_unit_or_tuple, IsPlainCtor, is_item_path, is_item, is_item_at, is_plain_literal, IsPlainPath, IsPlainWritten, IsPlainStmt, ArePlainStmts, IsPlainExpr, is_plain_mode, is_plain_binding, IsPlainPathPat, IsPlainPat, IsPlainBody, HasSizedParams, HasPlainBody, IsPlainBodyOf};
-ghost use Rattle.hir_facts.specs.PlainBodies.{is_value, is_maybe_value, stmt_has_values, arm_has_values, has_callees, WrittenFits, LetFits, LetsFit, LooksPlain};
+ghost use Rattle.hir_facts.specs.Own.{body_of, AllHold, is_unit_ctor, is_tuple_ctor, is_unit_or_tuple, IsPlainCtor, is_item_path, is_item, is_item_at, is_plain_literal, IsPlainPath, IsPlainWritten, IsPlainStmt, ArePlainStmts, IsPlainExpr, is_plain_mode, is_plain_binding, IsPlainPathPat, IsPlainPat, IsPlainBody, HasSizedParams, HasPlainBody, IsPlainBodyOf, is_value, is_maybe_value, stmt_has_values, arm_has_values, has_callees, WrittenFits, LetFits, LetsFit, LooksPlain};
 
 use crate::facts::Facts;
 use crate::sized::has_sized_params;

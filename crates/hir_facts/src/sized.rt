@@ -1,9 +1,8 @@
 //! Predicates that say that a type parameter has a size: the Rust Reference, "Trait and lifetime bounds".
 ghost use Rattle.std.specs.Prelude.{◌≡◌, ◌↔◌, slice_get, IsTrue};
 ghost use Rattle.std.specs.List.{list_all, list_any};
-ghost use Rattle.hir_raw.specs.Goals.{is_sized_lang};
-ghost use Rattle.hir_facts.specs.Sized.{is_one_sized_lang, is_sized_trait, param_number, only_param, sized_param, is_number, is_below, is_sized_of, is_sized_pred};
-ghost use Rattle.hir_facts.specs.Plain.{HasSizedParams};
+ghost use Rattle.hir_facts.specs.Words.{is_sized_lang};
+ghost use Rattle.hir_facts.specs.Own.{is_one_sized_lang, is_sized_trait, param_number, only_param, sized_param, is_number, is_below, is_sized_of, is_sized_pred, HasSizedParams};
 
 use hir_raw::{RawFacts, RawFn, RawGoal, RawLang, RawType, some_sized};
 use hir_types::{TraitId, TypeRefId};

@@ -6,12 +6,9 @@ use Rattle.std.proofs.lemmas.Bool.{or_cases, or_left, or_right}
 use Rattle.std.proofs.lemmas.List.{get_or_push, get_or_append_left, length_push}
 use Rattle.std.proofs.lemmas.Option.{slice_get_within}
 use Rattle.std.proofs.Math.Nat.{eq-or-lt_of_le}
-use Rattle.hir_types.specs.declared.ids.TypeRefId.{TypeRefId}
-use Rattle.hir_raw.specs.declared.raw.RawType.{RawType}
-use Rattle.hir_raw.specs.Hidden.{is_alias}
-use Rattle.hir_raw.specs.WrittenTypes.{type_parts}
-use Rattle.hir_facts.specs.Projections.{HoldsProjection, is_one, in_part}
-use Rattle.hir_ids.specs.Marked.{AreMarked}
+use Rattle.hir_ids.specs.Words.{TypeRefId, RawType, is_alias, type_parts, HoldsProjection, is_one}
+use Rattle.hir_facts.specs.Projections.{in_part}
+use Rattle.hir_ids.specs.Own.{AreMarked}
 
 some_of : (p : TypeRefId → Bool) (xs : List TypeRefId) → list_any p xs ≡ true → (i : ℕ) × (x : TypeRefId) × (slice_get xs i ≡ Some x) × (p x ≡ true)
 some_of p [] h = absurd (true≢false (sym h))

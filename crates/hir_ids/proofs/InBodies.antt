@@ -3,15 +3,8 @@ use Rattle.std.proofs.Common.{◌≡◌, ℕ, List, Option, Some, None, refl, sy
 use Rattle.std.specs.Prelude.{slice_get, option_map}
 use Rattle.std.proofs.lemmas.Option.{slice_get-map, slice_get_within}
 use Rattle.hir_types.specs.declared.ids.ExprOrPatId.TheVariants as node
-use Rattle.hir_raw.specs.declared.raw.RawExpr.{RawExpr}
-use Rattle.hir_raw.specs.declared.raw.RawPat.{RawPat}
-use Rattle.hir_raw.specs.declared.raw.RawBody.{RawBody}
-use Rattle.hir_raw.specs.declared.raw.RawFacts.{RawFacts}
-use Rattle.hir_raw.specs.Order.{Part, the_body, inner, IsInBody, PartsFit, parts, parts_of_expr, parts_of_pat, expr_parts, pat_parts, body_parts}
-use Rattle.hir_schedule.specs.Nodes.{nodes, AllInBody}
-use Rattle.hir_facts.specs.Entries.{AllHold}
-use Rattle.hir_facts.specs.Ids.{Exists, HasOneOwner, BodyIdsExist}
-use Rattle.hir_ids.specs.InBody.{BodyIdsHere}
+use Rattle.hir_ids.specs.Words.{RawExpr, RawPat, RawBody, RawFacts, Part, the_body, inner, IsInBody, PartsFit, parts, parts_of_expr, parts_of_pat, expr_parts, pat_parts, body_parts, nodes, AllInBody, AllHold, Exists, HasOneOwner, BodyIdsExist}
+use Rattle.hir_ids.specs.Own.{BodyIdsHere}
 use Rattle.hir_ids.proofs.Mentioned.{all_mentioned, all_said}
 
 -- ---- parts are nodes

@@ -7,3 +7,4 @@ pub mod Telling
 pub mod InBodies
 pub mod Owners
 pub mod Held
+pub mod Words

@@ -3,13 +3,7 @@ use Rattle.std.proofs.Common.{◌≡◌, inl, inr, ◌⊎◌, ◌<◌, ◌+◌, 
 use Rattle.std.specs.Prelude.{slice_get, option_map}
 use Rattle.std.proofs.lemmas.Option.{slice_get-map, slice_get_within}
 use Rattle.hir_types.specs.declared.ids.ExprOrPatId.TheVariants as node
-use Rattle.hir_raw.specs.declared.mention.Mention.{Mention}
-use Rattle.hir_raw.specs.declared.mention.Said.{Said}
-use Rattle.hir_raw.specs.declared.raw.RawExpr.{RawExpr}
-use Rattle.hir_raw.specs.declared.raw.RawPat.{RawPat}
-use Rattle.hir_raw.specs.declared.raw.RawBody.{RawBody}
-use Rattle.hir_raw.specs.Order.{Node, the_body, inner, IsNode, position}
-use Rattle.hir_raw.specs.Mentions.{expr_mentions, pat_mentions, body_mentions, mentions_of_expr, mentions_of_pat, Mentions, AllMentioned, each, said, expr_said, pat_said, body_said}
+use Rattle.hir_ids.specs.Words.{Mention, Said, RawExpr, RawPat, RawBody, Node, the_body, inner, IsNode, position, expr_mentions, pat_mentions, body_mentions, mentions_of_expr, mentions_of_pat, Mentions, AllMentioned, each, said, expr_said, pat_said, body_said}
 
 module _ {X : Type 0} where
   entry_left : (xs ys : List X) (k : ℕ) (x : X) → slice_get xs k ≡ Some x → slice_get (xs ++ ys) k ≡ Some x

@@ -5,10 +5,9 @@ use Rattle.std.proofs.lemmas.List.{get_or-set_same, get_or-set_other, length-set
 use Rattle.std.proofs.lemmas.Bool.Decides.{eqb_tells}
 use Rattle.std.proofs.lemmas.Option.{slice_get_read, slice_get-get_or}
 use Rattle.std.proofs.Math.Nat.{eq-or-lt_of_le}
-use Rattle.hir_ids.specs.declared.namers.Namers.{Namers}
+use Rattle.hir_ids.specs.Own.{Namers, and_one, IsNamedBy, AreNamers}
 use Rattle.hir_ids.specs.declared.namers.Namers.TheVariants.{Nobody, One, Several}
-use Rattle.hir_ids.specs.Namers.{and_one, IsNamedBy, AreNamers}
-use Rattle.hir_facts.specs.Named.{IsNamedAt}
+use Rattle.hir_ids.specs.Words.{IsNamedAt}
 
 -- entry n names t too
 named_again : (targets : List (Option ℕ)) (n t : ℕ) (x : Namers) → IsNamedAt targets t n → IsNamedBy targets n t x → IsNamedBy targets (n + 1) t (and_one x n)

@@ -2,10 +2,9 @@
 use Rattle.std.proofs.Common.{◌≡◌, ◌<◌, ℕ, List, length, get_or, Option, Some, sym, ◌∙◌}
 use Rattle.std.proofs.lemmas.List.{get_or_read_under}
 use Rattle.std.proofs.lemmas.Option.{slice_get_within}
-use Rattle.hir_ids.specs.declared.namers.Namers.{Namers}
+use Rattle.hir_ids.specs.Own.{Namers, IsNamedBy, AreNamers, IsOne}
 use Rattle.hir_ids.specs.declared.namers.Namers.TheVariants.{Nobody, One, Several}
-use Rattle.hir_ids.specs.Namers.{IsNamedBy, AreNamers, IsOne}
-use Rattle.hir_facts.specs.Named.{NamedOnce}
+use Rattle.hir_ids.specs.Words.{NamedOnce}
 
 pub once_from_one : (targets : List (Option ℕ)) (t : ℕ) (x : Namers) → IsNamedBy targets (length targets) t x → IsOne x → NamedOnce targets t
 once_from_one targets t Nobody named one = absurd one

@@ -2,16 +2,8 @@
 use Rattle.std.proofs.Common.{get_or, Bool, true, false, ◌≡◌, ℕ, List, length, Some}
 use Rattle.std.specs.Prelude.{slice_get, IsTrue}
 use Rattle.std.proofs.lemmas.Option.{slice_get_within}
-use Rattle.hir_raw.specs.declared.raw.RawBody.{RawBody}
-use Rattle.hir_raw.specs.declared.raw.RawVariant.{RawVariant}
-use Rattle.hir_raw.specs.declared.raw.RawAlias.{RawAlias}
-use Rattle.hir_raw.specs.declared.raw.RawFacts.{RawFacts}
-use Rattle.hir_ids.specs.declared.namers.Namers.{Namers}
-use Rattle.hir_ids.specs.Namers.{IsNamedBy, IsOne}
-use Rattle.hir_ids.specs.InBody.{BodyIdsHere, AreOwners, AreListers}
-use Rattle.hir_facts.specs.Ids.{owned_bodies, BodyIdsExist, listed_variants, VariantIdsHere, VariantIdsExist}
-use Rattle.hir_facts.specs.GoalIds.{listed_aliases, AliasIdsHere, AliasIdsExist}
-use Rattle.hir_ids.specs.AliasListers.{AreAliasListers}
+use Rattle.hir_ids.specs.Words.{RawBody, RawVariant, RawAlias, RawFacts, owned_bodies, BodyIdsExist, listed_variants, VariantIdsHere, VariantIdsExist, listed_aliases, AliasIdsHere, AliasIdsExist}
+use Rattle.hir_ids.specs.Own.{Namers, IsNamedBy, IsOne, BodyIdsHere, AreOwners, AreListers, AreAliasListers}
 use Rattle.hir_ids.proofs.InBodies.{exists_from_here, here_from_exists}
 use Rattle.hir_ids.proofs.Once.{once_from_one, one_from_once, named_at}
 

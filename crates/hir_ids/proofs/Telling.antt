@@ -1,11 +1,7 @@
 -- What a test of all that is said tells is told of all that is mentioned.
 use Rattle.std.proofs.Common.{◌≡◌, ℕ, Bool, List, Some, subst}
 use Rattle.std.specs.Prelude.{slice_get, IsTrue, ◌↔◌}
-use Rattle.hir_raw.specs.declared.mention.Mention.{Mention}
-use Rattle.hir_raw.specs.declared.mention.Said.{Said}
-use Rattle.hir_raw.specs.declared.raw.RawBody.{RawBody}
-use Rattle.hir_raw.specs.Order.{position}
-use Rattle.hir_raw.specs.Mentions.{AllMentioned, body_said}
+use Rattle.hir_ids.specs.Words.{Mention, Said, RawBody, position, AllMentioned, body_said}
 use Rattle.hir_ids.proofs.Mentioned.{all_mentioned, all_said}
 
 -- it tells whether this holds of each entry

@@ -3,9 +3,7 @@ use Rattle.std.proofs.Common.{◌≡◌, ◌+◌, ◌<◌, ℕ, suc, List, [], �
 use Rattle.std.specs.List.{flat_map}
 use Rattle.std.proofs.lemmas.List.{append_assoc, append-nil, map-append, take_more, length-take-le}
 use Rattle.std.proofs.lemmas.Grind.{flat_map-append}
-use Rattle.hir_raw.specs.declared.mention.Mention.{Mention}
-use Rattle.hir_raw.specs.declared.mention.Said.{Said}
-use Rattle.hir_raw.specs.Mentions.{each, said}
+use Rattle.hir_ids.specs.Words.{Mention, Said, each, said}
 
 each-push : {A B : Type 0} (f : ℕ → A → List B) (i : ℕ) (xs : List A) (x : A) → each f i (xs ++ x ∷ []) ≡ each f i xs ++ f (i + length xs) x
 each-push f i [] x = append-nil (f i x) ∙ ap (λ (k : ℕ). f k x) (omega arith)

@@ -1,9 +1,8 @@
 -- Which traits list an associated type.
 use Rattle.std.specs.Prelude.{List, length}
-use Rattle.hir_raw.specs.declared.raw.RawFacts.{RawFacts}
+use Rattle.hir_ids.specs.Words.{RawFacts, listed_aliases}
 use Rattle.hir_ids.specs.declared.namers.Namers.{Namers}
 use Rattle.hir_ids.specs.Namers.{AreNamers}
-use Rattle.hir_facts.specs.GoalIds.{listed_aliases}
 
 -- which traits list each associated type
 abbrev pub AreAliasListers : RawFacts → List Namers → Type 0

@@ -1,13 +1,6 @@
 -- The ids of a body, list by list, and which definitions each body is that of.
 use Rattle.std.specs.Prelude.{ℕ, ◌<◌, ◌≡◌, List, length, slice_get, Some}
-use Rattle.hir_types.specs.declared.ids.TraitId.{TraitId}
-use Rattle.hir_raw.specs.declared.raw.RawBody.{RawBody}
-use Rattle.hir_raw.specs.declared.raw.RawFacts.{RawFacts}
-use Rattle.hir_raw.specs.Order.{expr_parts, pat_parts, body_parts}
-use Rattle.hir_raw.specs.Mentions.{body_said}
-use Rattle.hir_schedule.specs.Nodes.{nodes, AllInBody}
-use Rattle.hir_facts.specs.Entries.{AllHold}
-use Rattle.hir_facts.specs.Ids.{Exists, owned_bodies, listed_variants}
+use Rattle.hir_ids.specs.Words.{TraitId, RawBody, RawFacts, expr_parts, pat_parts, body_parts, body_said, nodes, AllInBody, AllHold, Exists, owned_bodies, listed_variants}
 use Rattle.hir_ids.specs.declared.namers.Namers.{Namers}
 use Rattle.hir_ids.specs.Namers.{AreNamers}
 

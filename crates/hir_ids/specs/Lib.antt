@@ -2,3 +2,5 @@ pub mod Namers
 pub mod InBody
 pub mod AliasListers
 pub mod Marked
+pub mod Words
+pub mod Own

@@ -1,7 +1,6 @@
 -- The marks of the written types that hold a projection.
 use Rattle.std.specs.Prelude.{ℕ, ◌≡◌, ◌<◌, ◌↔◌, Bool, false, List, length, get_or, IsTrue}
-use Rattle.hir_raw.specs.declared.raw.RawType.{RawType}
-use Rattle.hir_facts.specs.Projections.{HoldsProjection}
+use Rattle.hir_ids.specs.Words.{RawType, HoldsProjection}
 
 -- of the first n types those are marked that hold one
 pub record AreMarked (types : List RawType) (n : ℕ) (marks : List Bool) : Type 0 where

@@ -1,6 +1,6 @@
 -- Which entries of a list name a place, as they are found.
 use Rattle.std.specs.Prelude.{ℕ, ◌<◌, ◌≡◌, List, length, slice_index_or, Option}
-use Rattle.hir_facts.specs.Named.{IsNamedAt}
+use Rattle.hir_ids.specs.Words.{IsNamedAt}
 use Rattle.hir_ids.specs.declared.namers.Namers.{Namers}
 use Rattle.hir_ids.specs.declared.namers.Namers.TheVariants.{Nobody, One, Several}
 

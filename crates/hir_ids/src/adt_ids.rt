@@ -1,15 +1,13 @@
 //! The ids of adts and variants are in range, and the two agree.
 ghost use Rattle.std.specs.Prelude.{◌≡◌, ◌↔◌, ◌<◌, ◌++◌, ℕ, Some, slice_get, length, map, IsTrue, IfOk, IfSome, OnOk};
-ghost use Rattle.hir_types.specs.declared.ids.VariantId.{VariantId};
-ghost use Rattle.hir_raw.specs.declared.raw.RawField.{RawField};
-ghost use Rattle.hir_ids.specs.InBody.{AreListers};
-ghost use Rattle.hir_facts.specs.Ids.{IsVariantOf, AdtIdsExist, listed_variants, FieldIdsExist, VariantIdsHere, VariantIdsExist};
+ghost use Rattle.hir_ids.specs.Words.{VariantId, RawField, IsVariantOf, AdtIdsExist, listed_variants, FieldIdsExist, VariantIdsHere, VariantIdsExist};
+ghost use Rattle.hir_ids.specs.Own.{AreListers};
 
 use crate::goal_ids::have_goal_ids;
 use crate::ids::has_vis;
 use crate::namers::{Namers, is_one, namers_of};
 use crate::test::Test;
-use hir_raw::{RawAdt, RawFacts, RawField, RawVariant};
+use hir_facts::hir_raw::{RawAdt, RawFacts, RawField, RawVariant};
 use hir_types::VariantId;
 use std::alloc::{AllocError, Global};
 

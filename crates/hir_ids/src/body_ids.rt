@@ -1,17 +1,14 @@
 //! The ids of a body are in range.
 ghost use Rattle.std.specs.Prelude.{◌≡◌, ◌↔◌, ◌<◌, ◌++◌, ℕ, Some, slice_get, map, IsTrue, IfOk, OnOk};
-ghost use Rattle.hir_types.specs.declared.ids.TraitId.{TraitId};
-ghost use Rattle.hir_raw.specs.Order.{IsInBody, expr_parts, pat_parts, body_parts, binding_of};
-ghost use Rattle.hir_raw.specs.Mentions.{body_said};
-ghost use Rattle.hir_schedule.specs.Nodes.{nodes, AllInBody};
-ghost use Rattle.hir_facts.specs.Entries.{AllHold};
-ghost use Rattle.hir_facts.specs.Ids.{IsInModule, IsModuleFn, Exists, owned_body, variant_body, owned_bodies, BodyIdsExist};
-ghost use Rattle.hir_ids.specs.InBody.{BodyIdsHere, AreOwners};
+ghost use Rattle.hir_ids.specs.Words.{TraitId, IsInBody, expr_parts, pat_parts, body_parts, binding_of, body_said, nodes, AllInBody, AllHold, IsInModule, IsModuleFn, Exists, owned_body, variant_body, owned_bodies, BodyIdsExist};
+ghost use Rattle.hir_ids.specs.Own.{BodyIdsHere, AreOwners};
 
 use crate::namers::{Namers, is_one, namers_of};
 use crate::saying::said_of_body;
 use crate::test::Test;
-use hir_raw::{Mention, RawAt, RawBody, RawExpr, RawFacts, RawFn, RawPat, RawVariant, Said};
+use hir_facts::hir_raw::{
+    Mention, RawAt, RawBody, RawExpr, RawFacts, RawFn, RawPat, RawVariant, Said,
+};
 use hir_schedule::{nodes_of_body, nodes_of_expr, nodes_of_pat};
 use hir_types::{BindingId, ExprOrPatId, FunctionId, TraitId};
 use std::alloc::{AllocError, Global};

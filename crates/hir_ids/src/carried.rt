@@ -1,15 +1,13 @@
 //! Each entry and part is of a kind that is carried.
 ghost use Rattle.std.specs.Prelude.{◌≡◌, length, IsTrue, MatchOption};
 ghost use Rattle.std.specs.List.{list_all};
-ghost use Rattle.hir_facts.specs.Entries.{AllHold, BreaksAt};
-ghost use Rattle.hir_facts.specs.Carried.{is_carried_written_type, is_type_param, is_carried_kind, is_carried_adt, is_carried_ctor, is_carried_variant, is_carried_fn, is_carried_literal, is_carried_path, is_ctor_path, is_carried_stmt, is_carried_expr, is_carried_pat, is_carried_binding, is_carried_body};
-ghost use Rattle.hir_ids.specs.Marked.{AreMarked};
-ghost use Rattle.hir_facts.specs.Projections.{VariantIsCarried};
+ghost use Rattle.hir_ids.specs.Words.{AllHold, BreaksAt, is_carried_written_type, is_type_param, is_carried_kind, is_carried_adt, is_carried_ctor, is_carried_variant, is_carried_fn, is_carried_literal, is_carried_path, is_ctor_path, is_carried_stmt, is_carried_expr, is_carried_pat, is_carried_binding, is_carried_body, VariantIsCarried};
+ghost use Rattle.hir_ids.specs.Own.{AreMarked};
 
 use crate::carried_goals::carries_goals;
 use crate::projections::{ProjectionMarks, unit_names_none};
 use crate::test::Test;
-use hir_raw::{
+use hir_facts::hir_raw::{
     BindingAnnotation, RawAdt, RawAdtKind, RawAt, RawBinding, RawBody, RawCtor, RawExpr, RawFacts,
     RawFn, RawLiteral, RawParam, RawPat, RawPath, RawStmt, RawType, RawVariant,
 };

@@ -1,11 +1,13 @@
 //! Goals, traits, associated types, impls and language items of kinds that are carried.
 ghost use Rattle.std.specs.Prelude.{◌≡◌, IsTrue};
 ghost use Rattle.std.specs.List.{list_all};
-ghost use Rattle.hir_facts.specs.Carried.{is_carried_args, is_carried_goal, is_carried_trait, is_carried_alias, has_carried_trait, is_carried_impl, is_carried_lang};
+ghost use Rattle.hir_ids.specs.Words.{is_carried_args, is_carried_goal, is_carried_trait, is_carried_alias, has_carried_trait, is_carried_impl, is_carried_lang};
 
 use crate::carried::are_type_params;
 use crate::test::Test;
-use hir_raw::{RawAlias, RawArgs, RawFacts, RawGoal, RawImpl, RawLang, RawTrait, RawTraitRef};
+use hir_facts::hir_raw::{
+    RawAlias, RawArgs, RawFacts, RawGoal, RawImpl, RawLang, RawTrait, RawTraitRef,
+};
 use std::alloc::{AllocError, Global};
 
 fn carries_args(args: &RawArgs) -> bool

@@ -1,14 +1,14 @@
 //! The ids in goals, traits, associated types and impls are in range, and traits and associated types agree.
 ghost use Rattle.std.specs.Prelude.{◌≡◌, ◌↔◌, ◌++◌, ℕ, Some, slice_get, map, IsTrue, IfOk, IfSome, OnOk};
-ghost use Rattle.hir_types.specs.declared.ids.TypeAliasId.{TypeAliasId};
-ghost use Rattle.hir_raw.specs.declared.raw.RawAssocType.{RawAssocType};
-ghost use Rattle.hir_ids.specs.AliasListers.{AreAliasListers};
-ghost use Rattle.hir_facts.specs.GoalIds.{TraitRefExists, GoalExists, GoalsExist, IsAliasOf, TraitIdsExist, AliasIdsHere, AliasIdsExist, IsGivenIn, ImplIdsExist, LangExists, listed_aliases};
+ghost use Rattle.hir_ids.specs.Words.{TypeAliasId, RawAssocType, TraitRefExists, GoalExists, GoalsExist, IsAliasOf, TraitIdsExist, AliasIdsHere, AliasIdsExist, IsGivenIn, ImplIdsExist, LangExists, listed_aliases};
+ghost use Rattle.hir_ids.specs.Own.{AreAliasListers};
 
 use crate::ids::are_below;
 use crate::namers::{Namers, is_one, namers_of};
 use crate::test::Test;
-use hir_raw::{RawAlias, RawAssocType, RawFacts, RawGoal, RawImpl, RawLang, RawTrait, RawTraitRef};
+use hir_facts::hir_raw::{
+    RawAlias, RawAssocType, RawFacts, RawGoal, RawImpl, RawLang, RawTrait, RawTraitRef,
+};
 use hir_types::TypeAliasId;
 use std::alloc::{AllocError, Global};
 

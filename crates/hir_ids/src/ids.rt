@@ -1,11 +1,10 @@
 //! Ids are in range, and smaller where a list asks for it; each body is that of one definition.
 ghost use Rattle.std.specs.Prelude.{◌≡◌, ◌↔◌, ◌<◌, ℕ, Some, None, slice_get, length, IsTrue, IfSome};
-ghost use Rattle.hir_types.specs.declared.ids.TypeRefId.{TypeRefId};
-ghost use Rattle.hir_facts.specs.Ids.{ChildrenBefore, ItemExists, TypeIdsExist, ParentBefore, PlaceExists, VisExists, FnIdsExist};
+ghost use Rattle.hir_ids.specs.Words.{TypeRefId, ChildrenBefore, ItemExists, TypeIdsExist, ParentBefore, PlaceExists, VisExists, FnIdsExist};
 
 use crate::goal_ids::have_goal_ids;
 use crate::test::Test;
-use hir_raw::{RawAt, RawFacts, RawFn, RawType, RawVis};
+use hir_facts::hir_raw::{RawAt, RawFacts, RawFn, RawType, RawVis};
 use hir_types::{ModuleId, TypeRefId};
 use std::alloc::{AllocError, Global};
 

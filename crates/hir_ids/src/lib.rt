@@ -21,6 +21,9 @@ pub use carried::{
 };
 pub use carried_goals::{AliasesCarried, ImplsCarried, LangCarried, TraitsCarried, carries_goals};
 pub use goal_ids::{AliasIds, ImplIds, LangIds, TraitIds, have_goal_ids};
+pub use hir_facts;
+pub use hir_facts::hir_raw;
+pub use hir_schedule;
 pub use ids::{FnIds, ModuleIds, TypeIds};
 pub use namers::{Namers, is_nobody, is_one, namers_of};
 pub use projections::ProjectionMarks;

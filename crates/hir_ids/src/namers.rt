@@ -1,6 +1,6 @@
 //! Which entries of a list name a place.
 ghost use Rattle.std.specs.Prelude.{◌≡◌, ◌↔◌, IsTrue, IfOk, slice_set, length, slice_index_or};
-ghost use Rattle.hir_ids.specs.Namers.{and_one, AreNamers, IsOne, IsNobody};
+ghost use Rattle.hir_ids.specs.Own.{and_one, AreNamers, IsOne, IsNobody};
 ghost use Rattle.hir_ids.specs.declared.namers.Namers.TheVariants.{Nobody};
 
 use std::alloc::{AllocError, Global};

@@ -1,14 +1,11 @@
 //! Where projections may not stand: in fields that a variant `V` lists.
 ghost use Rattle.std.specs.Prelude.{◌≡◌, ◌↔◌, ◌||◌, ℕ, false, get_or, length, IfOk, IsTrue, Some, slice_get};
 ghost use Rattle.std.specs.List.{list_any};
-ghost use Rattle.hir_raw.specs.Hidden.{is_alias};
-ghost use Rattle.hir_raw.specs.WrittenTypes.{type_parts};
-ghost use Rattle.hir_raw.specs.declared.raw.RawCtor.TheVariants as ctor;
-ghost use Rattle.hir_raw.specs.declared.raw.RawField.{RawField};
-ghost use Rattle.hir_ids.specs.Marked.{AreMarked};
-ghost use Rattle.hir_facts.specs.Projections.{IsNoProjection};
+ghost use Rattle.hir_ids.specs.Words.{is_alias, type_parts, RawField, IsNoProjection};
+ghost use Rattle.hir_ids.specs.Words.hir_raw.declared.raw.RawCtor.TheVariants as ctor;
+ghost use Rattle.hir_ids.specs.Own.{AreMarked};
 
-use hir_raw::{RawCtor, RawFacts, RawField, RawType, RawVariant};
+use hir_facts::hir_raw::{RawCtor, RawFacts, RawField, RawType, RawVariant};
 use hir_types::TypeRefId;
 use std::alloc::{AllocError, Global};
 

@@ -1,9 +1,9 @@
 //! What the nodes of a body name beside their parts, one after another.
 ghost use Rattle.std.specs.Prelude.{◌≡◌, ◌∷◌, ◌++◌, ◌+◌, ◌<◌, ◌^◌, List, [], length, flat_map, OnOk, IfOk};
-ghost use Rattle.hir_raw.specs.declared.mention.Mention.TheVariants.{List as list_mention};
-ghost use Rattle.hir_raw.specs.Mentions.{label_here, type_here, bound_here, path_mentions, stmt_mentions, expr_mentions, pat_mentions, body_mentions, said, each, expr_said, pat_said, body_said};
+ghost use Rattle.hir_ids.specs.Words.hir_raw.declared.mention.Mention.TheVariants.{List as list_mention};
+ghost use Rattle.hir_ids.specs.Words.{label_here, type_here, bound_here, path_mentions, stmt_mentions, expr_mentions, pat_mentions, body_mentions, said, each, expr_said, pat_said, body_said};
 
-use hir_raw::{LabelRole, Mention, RawBody, RawExpr, RawPat, RawPath, RawStmt, Said};
+use hir_facts::hir_raw::{LabelRole, Mention, RawBody, RawExpr, RawPat, RawPath, RawStmt, Said};
 use hir_types::{BindingId, LabelId, TypeRefId};
 use std::alloc::{AllocError, Global};
 

@@ -1,9 +1,8 @@
 //! A law at the entries of a list, and the first entry that breaks it.
 ghost use Rattle.std.specs.Prelude.{◌≡◌, ◌↔◌, ℕ, List, IfOk, IsTrue, MatchOption, Some, slice_get};
-ghost use Rattle.hir_raw.specs.declared.raw.RawFacts.{RawFacts};
-ghost use Rattle.hir_facts.specs.Entries.{AllHold, BreaksAt};
+ghost use Rattle.hir_ids.specs.Words.{RawFacts, AllHold, BreaksAt};
 
-use hir_raw::RawFacts;
+use hir_facts::hir_raw::RawFacts;
 use std::alloc::{AllocError, Global};
 
 /// A test of a law at the entries of a list of the facts.

@@ -4,19 +4,11 @@ use Rattle.std.specs.Prelude.{slice_get, option_map, IsTrue, ◌==◌, MatchOpti
 use Rattle.std.specs.Option.{option_and_then}
 use Rattle.std.proofs.lemmas.Option.{slice_get_within, slice_get-map}
 use Rattle.std.proofs.lemmas.Bool.Decides.{eqb_tells}
-use Rattle.hir_types.specs.declared.ids.BindingId.{BindingId}
-use Rattle.hir_types.specs.declared.ids.PatId.{PatId}
-use Rattle.hir_raw.specs.declared.raw.RawPat.{RawPat}
-use Rattle.hir_raw.specs.declared.raw.RawBody.{RawBody}
-use Rattle.hir_ids.specs.declared.namers.Namers.{Namers}
-use Rattle.hir_ids.specs.declared.namers.Namers.TheVariants.{Nobody, One, Several}
-use Rattle.hir_raw.specs.declared.schedule.Schedule.{Schedule}
-use Rattle.hir_raw.specs.Order.{Binds, binding_of, IsTree, IsSchedule, AreDepths}
-use Rattle.hir_raw.proofs.Ways.{tree_of_schedule}
-use Rattle.hir_facts.specs.Named.{IsNamedAt}
-use Rattle.hir_ids.specs.Namers.{IsNamedBy}
-use Rattle.hir_laws.specs.Binders.{bound_binding, AreBinders, is_self, is_bound_once}
-use Rattle.hir_facts.specs.Trees.{BoundBySelf, BoundByPattern, IsWellFormed}
+use Rattle.hir_laws.specs.Words.{BindingId, PatId, RawPat, RawBody, Namers, Schedule, Binds, binding_of, IsSchedule, AreDepths, IsNamedAt, IsNamedBy, BoundBySelf, BoundByPattern, IsWellFormed}
+use Rattle.hir_laws.specs.Words.hir_ids.declared.namers.Namers.TheVariants.{Nobody, One, Several}
+use Rattle.hir_laws.specs.Words.hir_raw.Order.{IsTree}
+use Rattle.hir_laws.proofs.Words.{tree_of_schedule}
+use Rattle.hir_laws.specs.Own.{bound_binding, AreBinders, is_self, is_bound_once}
 
 pub same_binding : (v w : BindingId) → v.0 ≡ w.0 → v ≡ w
 same_binding v w e = λ i. record { 0 = e i }

@@ -2,9 +2,9 @@
 use Rattle.std.proofs.Common.{◌≡◌, ◌<◌, ◌≤◌, ◌+◌, ◌-◌, ◌*◌, ◌^◌, ℕ, List, [], ◌∷◌, length, get_or, drop, Bool, true, false, ◌&&◌, cond, Option, Some, None, refl, sym, ◌∙◌, arith, lit<}
 use Rattle.std.specs.Prelude.{nat_le, IsSomeAnd, fold}
 use Rattle.std.proofs.Math.ListN.{drop_of_length-le}
-use Rattle.hir_facts.specs.Literals.{and_digit, value_of}
-use Rattle.hir_laws.specs.InBits.{IsSmall}
-use Rattle.hir_counts.proofs.Drops.{drop_at}
+use Rattle.hir_laws.specs.Words.{and_digit, value_of}
+use Rattle.hir_laws.specs.Own.{IsSmall}
+use Rattle.hir_laws.proofs.Words.{drop_at}
 
 -- the digits before i make this value
 pub record Valued (cs : List ℕ) (i value : ℕ) : Type 0 where

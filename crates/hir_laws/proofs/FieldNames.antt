@@ -4,11 +4,8 @@ use Rattle.std.specs.Prelude.{slice_get}
 use Rattle.std.specs.Fmt.{decimal}
 use Rattle.std.proofs.lemmas.Fmt.{decimal_injective}
 use Rattle.std.proofs.lemmas.Option.{slice_get_within}
-use Rattle.hir_raw.specs.declared.raw.RawField.{RawField}
-use Rattle.hir_raw.specs.declared.raw.RawVariant.{RawVariant}
-use Rattle.hir_facts.specs.Entries.{AllHold}
-use Rattle.hir_laws.specs.NewNames.{IsNew}
-use Rattle.hir_facts.specs.Fields.{NamesFit}
+use Rattle.hir_laws.specs.Words.{RawField, RawVariant, AllHold, NamesFit}
+use Rattle.hir_laws.specs.Own.{IsNew}
 
 take_get : {A : Type 0} (xs : List A) (n j : ℕ) → j < n → slice_get (take n xs) j ≡ slice_get xs j
 take_get xs zero j lt = absurd (omega arith)

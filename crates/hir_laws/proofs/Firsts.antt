@@ -6,8 +6,8 @@ use Rattle.std.proofs.lemmas.Bool.Decides.{eqb_tells}
 use Rattle.std.proofs.lemmas.Bool.{cases_lt, ltb-true, lt-ltb}
 use Rattle.std.proofs.lemmas.Option.{slice_get-get_or}
 use Rattle.std.proofs.Math.Nat.{eq-or-lt_of_le}
-use Rattle.hir_raw.specs.declared.mention.Said.{Said}
-use Rattle.hir_laws.specs.Firsts.{binding_bound, and_number, comes_before, IsBoundBelow, AreFirsts}
+use Rattle.hir_laws.specs.Words.{Said}
+use Rattle.hir_laws.specs.Own.{binding_bound, and_number, comes_before, IsBoundBelow, AreFirsts}
 
 lower_or : (o : Option ℕ) (m number : ℕ) → IsTrue (comes_before (Some (and_number o m)) number) ↔ (IsTrue (comes_before o number) ⊎ (m < number))
 lower_or None m number = (λ t. inr (ltb-true _ _ t), λ h. elim h [ inl none ↦ cc | inr lt ↦ lt-ltb _ _ lt ])

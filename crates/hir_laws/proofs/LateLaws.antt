@@ -1,9 +1,7 @@
 -- What the later laws refuse, once the earlier ones hold.
 use Rattle.std.proofs.Common.{◌++◌}
-use Rattle.hir_raw.specs.declared.raw.RawFacts.{RawFacts}
-use Rattle.hir_laws.specs.declared.facts_error.FactsError.{FactsError}
-use Rattle.hir_facts.specs.Lawful.{PassesAll, carried_tests, ids_tests, counts_tests, trees_tests, scopes_tests, sizes_tests, limits_tests, lang_tests, literals_tests, holes_tests, tests}
-use Rattle.hir_laws.specs.Refused.{Refuses}
+use Rattle.hir_laws.specs.Words.{RawFacts, PassesAll, carried_tests, ids_tests, counts_tests, trees_tests, scopes_tests, sizes_tests, limits_tests, lang_tests, literals_tests, holes_tests, tests}
+use Rattle.hir_laws.specs.Own.{FactsError, Refuses}
 use Rattle.hir_laws.proofs.Refusals.{refused_after, refused_before}
 
 module _ (raw : RawFacts) (e : FactsError) (carried : PassesAll raw carried_tests) (ids : PassesAll raw ids_tests) (counts : PassesAll raw counts_tests)

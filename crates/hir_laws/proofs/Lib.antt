@@ -7,3 +7,4 @@ pub mod LateLaws
 pub mod PatternLiterals
 pub mod Refusals
 pub mod Scoping
+pub mod Words

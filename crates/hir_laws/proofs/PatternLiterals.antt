@@ -2,19 +2,11 @@
 use Rattle.std.proofs.Common.{◌≡◌, ℕ, List, length, get_or, map, Option, Some, sym, ◌∙◌, ap, inl, inr}
 use Rattle.std.specs.Prelude.{slice_get, option_map}
 use Rattle.std.proofs.lemmas.Option.{slice_get_within, slice_get-map}
-use Rattle.hir_types.specs.declared.ids.ExprId.{ExprId}
-use Rattle.hir_raw.specs.declared.raw.RawExpr.{RawExpr}
-use Rattle.hir_raw.specs.declared.raw.RawExpr.TheVariants as expr
-use Rattle.hir_raw.specs.declared.raw.RawPat.{RawPat}
-use Rattle.hir_raw.specs.declared.raw.RawPat.TheVariants as pat
-use Rattle.hir_raw.specs.declared.raw.RawBody.{RawBody}
-use Rattle.hir_ids.specs.declared.namers.Namers.{Namers}
-use Rattle.hir_ids.specs.declared.namers.Namers.TheVariants.{Nobody, One, Several}
-use Rattle.hir_facts.specs.Entries.{AllHold}
-use Rattle.hir_facts.specs.Named.{IsNamedAt}
-use Rattle.hir_ids.specs.Namers.{IsNamedBy}
-use Rattle.hir_facts.specs.Literals.{IsPatternOf, LiteralsFit}
-use Rattle.hir_laws.specs.InBits.{literal_of, ArePatterns, IsSomeones, ExprIsInBits, PatIsLiteral}
+use Rattle.hir_laws.specs.Words.{ExprId, RawExpr, RawPat, RawBody, Namers, AllHold, IsNamedAt, IsNamedBy, IsPatternOf, LiteralsFit}
+use Rattle.hir_laws.specs.Words.hir_raw.declared.raw.RawExpr.TheVariants as expr
+use Rattle.hir_laws.specs.Words.hir_raw.declared.raw.RawPat.TheVariants as pat
+use Rattle.hir_laws.specs.Words.hir_ids.declared.namers.Namers.TheVariants.{Nobody, One, Several}
+use Rattle.hir_laws.specs.Own.{literal_of, ArePatterns, IsSomeones, ExprIsInBits, PatIsLiteral}
 
 place_at : (o : Option RawPat) (t : ℕ) → option_map literal_of o ≡ Some (Some t) → o ≡ Some (pat.Lit (record { 0 = t }))
 place_at (Some (pat.Lit e)) t h = let q : e.0 ≡ t = cc in ap (λ (n : ℕ). Some (pat.Lit (record { 0 = n }))) q

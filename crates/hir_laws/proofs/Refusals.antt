@@ -1,12 +1,8 @@
 -- What is refused by some tests is refused by more of them.
 use Rattle.std.proofs.Common.{inl, inr, ℕ, List, [], ◌∷◌, ◌++◌}
-use Rattle.hir_raw.specs.declared.raw.RawFacts.{RawFacts}
-use Rattle.hir_facts.specs.declared.laws.Law.{Law}
-use Rattle.hir_facts.specs.declared.laws.FactsList.{FactsList}
-use Rattle.hir_laws.specs.declared.facts_error.FactsError.{FactsError}
+use Rattle.hir_laws.specs.Words.{RawFacts, Law, FactsList, Test, PassesAll, FirstBroken}
+use Rattle.hir_laws.specs.Own.{FactsError, Refuses}
 use Rattle.hir_laws.specs.declared.facts_error.FactsError.TheVariants as error
-use Rattle.hir_facts.specs.Lawful.{Test, PassesAll, FirstBroken}
-use Rattle.hir_laws.specs.Refused.{Refuses}
 
 broken_after : (raw : RawFacts) (ts us : List Test) (l : Law) (k : FactsList) (i : ℕ) → PassesAll raw ts → FirstBroken raw us l k i → FirstBroken raw (ts ++ us) l k i
 broken_after raw [] us l k i all first = first

@@ -4,21 +4,11 @@ use Rattle.std.specs.Prelude.{slice_get, slice_index, IsTrue, ◌↔◌}
 use Rattle.std.proofs.Math.Nat.{eq-or-lt_of_le}
 use Rattle.std.proofs.lemmas.Option.{slice_get_within, slice_get-get_or, get_or_from_slice_get, slice_get_read}
 use Rattle.std.proofs.lemmas.List.{get_or_push, get_or_append_left}
-use Rattle.hir_types.specs.declared.ids.BindingId.{BindingId}
-use Rattle.hir_raw.specs.declared.mention.Mention.{Mention}
-use Rattle.hir_raw.specs.declared.mention.Mention.TheVariants as it
-use Rattle.hir_raw.specs.declared.mention.Said.{Said}
-use Rattle.hir_raw.specs.declared.raw.RawBody.{RawBody}
-use Rattle.hir_raw.specs.declared.schedule.Schedule.{Schedule}
-use Rattle.hir_raw.specs.Mentions.{Mentions, body_said}
-use Rattle.hir_raw.specs.Order.{IsSchedule, AreDepths, IsLow, Node, position, start}
-use Rattle.hir_raw.proofs.Ways.{schedule_unique}
-use Rattle.hir_ids.proofs.Mentioned.{mention_said, said_mention, mentions_within}
-use Rattle.hir_ids.proofs.Telling.{mentions_tell}
-use Rattle.hir_laws.specs.Firsts.{binding_bound, IsBoundBelow, AreFirsts, ComesAfter, LocalsExist}
-use Rattle.hir_facts.specs.Scopes.{IsBoundBefore, IsInScope, AreInScope, ScopesHold}
+use Rattle.hir_laws.specs.Words.{BindingId, Mention, Said, RawBody, Schedule, Mentions, body_said, IsSchedule, AreDepths, IsLow, Node, position, start, IsBoundBefore, IsInScope, AreInScope, ScopesHold, AreSchedules}
+use Rattle.hir_laws.specs.Words.hir_raw.declared.mention.Mention.TheVariants as it
+use Rattle.hir_laws.proofs.Words.{schedule_unique, mention_said, said_mention, mentions_within, mentions_tell}
+use Rattle.hir_laws.specs.Own.{binding_bound, IsBoundBelow, AreFirsts, ComesAfter, LocalsExist}
 use Rattle.hir_laws.proofs.Binding.{same_binding}
-use Rattle.hir_facts.specs.Scheduled.{AreSchedules}
 
 -- the numbers of the first n bodies
 pub record ScheduledSoFar (bodies : List RawBody) (n : ℕ) (schedules : List Schedule) : Type 0 where

@@ -1,12 +1,7 @@
 -- Which patterns bind each binding of a body.
 use Rattle.std.specs.Prelude.{ℕ, Bool, true, false, ◌==◌, List, length, map, Option, Some, None, option_map}
-use Rattle.hir_types.specs.declared.ids.BindingId.{BindingId}
-use Rattle.hir_raw.specs.declared.raw.RawPat.{RawPat}
-use Rattle.hir_raw.specs.declared.raw.RawBody.{RawBody}
-use Rattle.hir_ids.specs.declared.namers.Namers.{Namers}
-use Rattle.hir_ids.specs.declared.namers.Namers.TheVariants.{Nobody, One, Several}
-use Rattle.hir_raw.specs.Order.{binding_of}
-use Rattle.hir_ids.specs.Namers.{AreNamers}
+use Rattle.hir_laws.specs.Words.{BindingId, RawPat, RawBody, Namers, binding_of, AreNamers}
+use Rattle.hir_laws.specs.Words.hir_ids.declared.namers.Namers.TheVariants.{Nobody, One, Several}
 
 -- the binding of a pattern, by its number
 abbrev pub bound_binding : RawPat → Option ℕ

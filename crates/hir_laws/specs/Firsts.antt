@@ -1,12 +1,7 @@
 -- At which number each binding of a body is bound first.
 use Rattle.std.specs.Prelude.{ℕ, ◌<◌, ◌≡◌, min, Bool, true, false, nat_lt, List, length, slice_get, slice_index, slice_index_or, Option, Some, None, IsTrue, ◌↔◌}
-use Rattle.hir_types.specs.declared.ids.BindingId.{BindingId}
-use Rattle.hir_raw.specs.declared.mention.Mention.{Mention}
-use Rattle.hir_raw.specs.declared.mention.Mention.TheVariants as it
-use Rattle.hir_raw.specs.declared.mention.Said.{Said}
-use Rattle.hir_raw.specs.declared.raw.RawBody.{RawBody}
-use Rattle.hir_raw.specs.Mentions.{Mentions}
-use Rattle.hir_raw.specs.Order.{Node}
+use Rattle.hir_laws.specs.Words.{BindingId, Mention, Said, RawBody, Mentions, Node}
+use Rattle.hir_laws.specs.Words.hir_raw.declared.mention.Mention.TheVariants as it
 
 -- the binding that is bound, by its number
 abbrev pub binding_bound : Mention → Option ℕ

@@ -1,14 +1,9 @@
 -- Literals in 128 bits, one by one.
 use Rattle.std.specs.Prelude.{ℕ, ◌<◌, ◌^◌, ◌⊎◌, List, length, map, slice_get, Option, Some, None, IsSomeAnd}
-use Rattle.hir_raw.specs.declared.raw.RawExpr.{RawExpr}
-use Rattle.hir_raw.specs.declared.raw.RawExpr.TheVariants as expr
-use Rattle.hir_raw.specs.declared.raw.RawPat.{RawPat}
-use Rattle.hir_raw.specs.declared.raw.RawPat.TheVariants as pat
-use Rattle.hir_raw.specs.declared.raw.RawBody.{RawBody}
-use Rattle.hir_ids.specs.declared.namers.Namers.{Namers}
-use Rattle.hir_ids.specs.declared.namers.Namers.TheVariants.{Nobody, One, Several}
-use Rattle.hir_ids.specs.Namers.{AreNamers}
-use Rattle.hir_facts.specs.Literals.{IsInBits, IsSignedInBits, IsLiteral}
+use Rattle.hir_laws.specs.Words.{RawExpr, RawPat, RawBody, Namers, AreNamers, IsInBits, IsSignedInBits, IsLiteral}
+use Rattle.hir_laws.specs.Words.hir_raw.declared.raw.RawExpr.TheVariants as expr
+use Rattle.hir_laws.specs.Words.hir_raw.declared.raw.RawPat.TheVariants as pat
+use Rattle.hir_laws.specs.Words.hir_ids.declared.namers.Namers.TheVariants.{Nobody, One, Several}
 
 abbrev pub IsSmall : Option ℕ → Type 0
 IsSmall o = IsSomeAnd o (λ n. n < 2 ^ 128)

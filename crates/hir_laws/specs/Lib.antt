@@ -3,3 +3,5 @@ pub mod Firsts
 pub mod InBits
 pub mod Refused
 pub mod NewNames
+pub mod Words
+pub mod Own

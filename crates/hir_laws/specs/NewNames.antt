@@ -1,6 +1,6 @@
 -- Names that no field before has.
 use Rattle.std.specs.Prelude.{ℕ, ◌<◌, ◌≡◌, List, slice_get, Some}
-use Rattle.hir_raw.specs.declared.raw.RawField.{RawField}
+use Rattle.hir_laws.specs.Words.{RawField}
 
 -- no field before position i has the name of this one
 abbrev pub IsNew : List RawField → ℕ → RawField → Type 0

@@ -1,16 +1,12 @@
 //! How long the lists of a body may be, and how deep its tree.
 ghost use Rattle.std.specs.Prelude.{◌≡◌, ◌↔◌, ℕ, Some, IsTrue, IfOk, slice_get};
-ghost use Rattle.hir_raw.specs.declared.mention.Said.{Said};
-ghost use Rattle.hir_raw.specs.Mentions.{AllMentioned};
-ghost use Rattle.hir_raw.specs.Order.{IsSchedule, AreDepths};
-ghost use Rattle.hir_facts.specs.Scheduled.{AreSchedules};
-ghost use Rattle.hir_facts.specs.Sizes.{ListIsShort, BodyIsSmall};
+ghost use Rattle.hir_laws.specs.Words.{Said, AllMentioned, IsSchedule, AreDepths, AreSchedules, ListIsShort, BodyIsSmall};
 
 use crate::scopes::MOST_STEPS;
+use hir_counts::hir_ids::{Test, said_of_body};
+use hir_counts::hir_raw::{RawBody, RawFacts, Said, Schedule};
+use hir_counts::hir_schedule::is_low;
 use hir_counts::{is_early, is_short, is_short_list};
-use hir_ids::{Test, said_of_body};
-use hir_raw::{RawBody, RawFacts, Said, Schedule};
-use hir_schedule::is_low;
 use hir_types::List;
 use std::alloc::{AllocError, Global};
 

@@ -1,10 +1,7 @@
 //! The tests of the laws, in their order.
 ghost use Rattle.std.specs.Prelude.{◌≡◌, IfOk, IfErr, MatchOption, Ok, Err};
-ghost use Rattle.hir_facts.specs.Entries.{AllHold};
-ghost use Rattle.hir_facts.specs.Ids.{TypeIdsExist, BodyIdsExist};
-ghost use Rattle.hir_facts.specs.Scheduled.{AreSchedules};
-ghost use Rattle.hir_facts.specs.Lawful.{IsLawful, PassesAll, item_tests, unread_tests, abstract_tests, body_tests, carried_tests, ids_tests, counts_tests, trees_tests, scopes_tests, sizes_tests, limits_tests, lang_tests, literals_tests, holes_tests, tests};
-ghost use Rattle.hir_laws.specs.Refused.{Refuses};
+ghost use Rattle.hir_laws.specs.Words.{AllHold, TypeIdsExist, BodyIdsExist, AreSchedules, IsLawful, PassesAll, item_tests, unread_tests, abstract_tests, body_tests, carried_tests, ids_tests, counts_tests, trees_tests, scopes_tests, sizes_tests, limits_tests, lang_tests, literals_tests, holes_tests, tests};
+ghost use Rattle.hir_laws.specs.Own.{Refuses};
 
 use crate::body_sizes::BodySizes;
 use crate::facts_error::FactsError;
@@ -14,18 +11,18 @@ use crate::limits::LimitsInRange;
 use crate::literals::LiteralsInBits;
 use crate::scopes::{Scopes, schedules_of};
 use crate::trees::Trees;
+use hir_counts::hir_facts::{FactsList, Law};
+use hir_counts::hir_ids::{
+    AdtIds, AdtsCarried, AliasIds, AliasesCarried, BodiesCarried, BodyIds, FnIds, FnsCarried,
+    ImplIds, ImplsCarried, LangCarried, LangIds, ModuleIds, ProjectionMarks, TraitIds,
+    TraitsCarried, TypeIds, TypesCarried, VariantIds, VariantsCarried, first_broken, first_other,
+};
+use hir_counts::hir_raw::{RawFacts, Schedule};
 use hir_counts::{
     AdtCounts, AdtSizes, AliasCounts, AliasSizes, FnCounts, FnSizes, Holes, ImplCounts, ImplSizes,
     LangEarly, ModulesEarly, Standing, TraitCounts, TraitSizes, TypeSizes, VariantCounts,
     VariantSizes,
 };
-use hir_facts::{FactsList, Law};
-use hir_ids::{
-    AdtIds, AdtsCarried, AliasIds, AliasesCarried, BodiesCarried, BodyIds, FnIds, FnsCarried,
-    ImplIds, ImplsCarried, LangCarried, LangIds, ModuleIds, ProjectionMarks, TraitIds,
-    TraitsCarried, TypeIds, TypesCarried, VariantIds, VariantsCarried, first_broken, first_other,
-};
-use hir_raw::{RawFacts, Schedule};
 use hir_types::List;
 use std::alloc::Global;
 

@@ -1,13 +1,11 @@
 //! The names of a variant's fields.
 ghost use Rattle.std.specs.Prelude.{◌≡◌, ◌↔◌, ◌<◌, ℕ, Some, slice_get, length, ◌^◌, IsTrue, IfOk};
 ghost use Rattle.std.specs.Fmt.{decimal};
-ghost use Rattle.hir_raw.specs.declared.raw.RawField.{RawField};
-ghost use Rattle.hir_facts.specs.Entries.{AllHold};
-ghost use Rattle.hir_laws.specs.NewNames.{IsNew};
-ghost use Rattle.hir_facts.specs.Fields.{NamesFit};
+ghost use Rattle.hir_laws.specs.Words.{RawField, AllHold, NamesFit};
+ghost use Rattle.hir_laws.specs.Own.{IsNew};
 
-use hir_ids::Test;
-use hir_raw::{RawCtor, RawFacts, RawField, RawVariant};
+use hir_counts::hir_ids::Test;
+use hir_counts::hir_raw::{RawCtor, RawFacts, RawField, RawVariant};
 use hir_types::Text;
 use std::alloc::{AllocError, Global};
 

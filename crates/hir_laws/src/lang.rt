@@ -1,9 +1,9 @@
 //! Language items have the shape that they are known by.
 ghost use Rattle.std.specs.Prelude.{◌≡◌, ◌↔◌, IsTrue};
-ghost use Rattle.hir_facts.specs.Lang.{HasNoParams, LangFits};
+ghost use Rattle.hir_laws.specs.Words.{HasNoParams, LangFits};
 
-use hir_ids::Test;
-use hir_raw::{RawFacts, RawLang};
+use hir_counts::hir_ids::Test;
+use hir_counts::hir_raw::{RawFacts, RawLang};
 use hir_types::TraitId;
 use std::alloc::{AllocError, Global};
 

@@ -1,13 +1,13 @@
 //! Facts that pass the tests of all laws.
 ghost use Rattle.std.specs.Prelude.{◌≡◌, IfOk, IfErr};
-ghost use Rattle.hir_facts.specs.Lawful.{IsLawful, tests};
-ghost use Rattle.hir_laws.specs.Refused.{Refuses};
+ghost use Rattle.hir_laws.specs.Words.{IsLawful, tests};
+ghost use Rattle.hir_laws.specs.Own.{Refuses};
 
 use crate::checks::check;
 use crate::facts_error::FactsError;
-use hir_facts::Facts;
+use hir_counts::hir_facts::Facts;
+use hir_counts::hir_raw::RawFacts;
 use hir_plain::plain_marks;
-use hir_raw::RawFacts;
 use std::alloc::Global;
 
 /// Tests the laws in their order, and keeps the facts where all hold. `FactsError::Law` names the

@@ -13,4 +13,5 @@ mod scopes;
 mod trees;
 
 pub use facts_error::FactsError;
+pub use hir_counts::hir_facts;
 pub use lawful::lawful_facts;

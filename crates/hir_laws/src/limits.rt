@@ -1,9 +1,9 @@
 //! The limits are in their ranges.
 ghost use Rattle.std.specs.Prelude.{◌≡◌};
-ghost use Rattle.hir_facts.specs.Limits.{limits_of, most_at, IsInRange};
+ghost use Rattle.hir_laws.specs.Words.{limits_of, most_at, IsInRange};
 
-use hir_ids::Test;
-use hir_raw::RawFacts;
+use hir_counts::hir_ids::Test;
+use hir_counts::hir_raw::RawFacts;
 use std::alloc::{AllocError, Global};
 
 fn most_at(at: usize) -> u32

@@ -1,13 +1,11 @@
 //! Literals stand for values of at most 128 bits, and characters are scalar values.
 ghost use Rattle.std.specs.Prelude.{◌≡◌, ◌↔◌, ◌<◌, ◌^◌, ◌&&◌, ℕ, Some, nat_le, length, map, slice_get, slice_index_or, IsTrue, IfOk, IfSome, MatchOption};
-ghost use Rattle.hir_facts.specs.Literals.{and_digit, value_of, without_minus, IsInBits, IsSignedInBits, IsLiteral, LiteralsFit};
-ghost use Rattle.hir_raw.specs.declared.raw.RawPat.{RawPat};
-ghost use Rattle.hir_ids.specs.declared.namers.Namers.TheVariants.{Nobody};
-ghost use Rattle.hir_facts.specs.Entries.{AllHold};
-ghost use Rattle.hir_laws.specs.InBits.{IsSmall, literal_of, ArePatterns, IsSomeones, ExprIsInBits, PatIsLiteral};
+ghost use Rattle.hir_laws.specs.Words.{and_digit, value_of, without_minus, IsInBits, IsSignedInBits, IsLiteral, LiteralsFit, RawPat, AllHold};
+ghost use Rattle.hir_laws.specs.Words.hir_ids.declared.namers.Namers.TheVariants.{Nobody};
+ghost use Rattle.hir_laws.specs.Own.{IsSmall, literal_of, ArePatterns, IsSomeones, ExprIsInBits, PatIsLiteral};
 
-use hir_ids::{Namers, Test, namers_of};
-use hir_raw::{RawBody, RawExpr, RawFacts, RawLiteral, RawPat};
+use hir_counts::hir_ids::{Namers, Test, namers_of};
+use hir_counts::hir_raw::{RawBody, RawExpr, RawFacts, RawLiteral, RawPat};
 use hir_types::ExprId;
 use std::alloc::{AllocError, Global};
 

@@ -1,17 +1,13 @@
 //! A local names a binding that the walk has come to before.
 ghost use Rattle.std.specs.Prelude.{◌≡◌, ◌↔◌, ℕ, Some, None, IsTrue, IfOk, length, slice_get, slice_set, slice_index_or};
-ghost use Rattle.hir_raw.specs.declared.mention.Said.{Said};
-ghost use Rattle.hir_raw.specs.Order.{PartsFit, IsTree, IsSchedule, AreDepths};
-ghost use Rattle.hir_facts.specs.Entries.{AllHold};
-ghost use Rattle.hir_facts.specs.Ids.{BodyIdsExist};
-ghost use Rattle.hir_laws.specs.Firsts.{binding_bound, and_number, comes_before, AreFirsts, ComesAfter, LocalsExist};
-ghost use Rattle.hir_facts.specs.Scopes.{AreInScope, ScopesHold};
-ghost use Rattle.hir_facts.specs.Scheduled.{AreSchedules};
+ghost use Rattle.hir_laws.specs.Words.{Said, PartsFit, IsSchedule, AreDepths, AllHold, BodyIdsExist, AreInScope, ScopesHold, AreSchedules};
+ghost use Rattle.hir_laws.specs.Words.hir_raw.Order.{IsTree};
+ghost use Rattle.hir_laws.specs.Own.{binding_bound, and_number, comes_before, AreFirsts, ComesAfter, LocalsExist};
 
+use hir_counts::hir_ids::{Test, said_of_body};
+use hir_counts::hir_raw::{Mention, RawBody, RawFacts, Said, Schedule};
+use hir_counts::hir_schedule::{is_low, schedule_of};
 use hir_counts::number_at;
-use hir_ids::{Test, said_of_body};
-use hir_raw::{Mention, RawBody, RawFacts, Said, Schedule};
-use hir_schedule::{is_low, schedule_of};
 use hir_types::List;
 use std::alloc::{AllocError, Global};
 

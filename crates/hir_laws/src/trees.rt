@@ -1,15 +1,13 @@
 //! The nodes of a body are a tree, and each binding is bound once.
 ghost use Rattle.std.specs.Prelude.{◌≡◌, ◌↔◌, ◌<◌, ℕ, IsTrue, IfOk, length, map, slice_index_or};
-ghost use Rattle.hir_raw.specs.Order.{PartsFit, IsTree};
-ghost use Rattle.hir_ids.specs.declared.namers.Namers.TheVariants.{Nobody};
-ghost use Rattle.hir_facts.specs.Entries.{AllHold};
-ghost use Rattle.hir_facts.specs.Ids.{BodyIdsExist};
-ghost use Rattle.hir_laws.specs.Binders.{bound_binding, AreBinders, is_self, is_bound_once};
-ghost use Rattle.hir_facts.specs.Trees.{IsWellFormed};
+ghost use Rattle.hir_laws.specs.Words.{PartsFit, AllHold, BodyIdsExist, IsWellFormed};
+ghost use Rattle.hir_laws.specs.Words.hir_raw.Order.{IsTree};
+ghost use Rattle.hir_laws.specs.Words.hir_ids.declared.namers.Namers.TheVariants.{Nobody};
+ghost use Rattle.hir_laws.specs.Own.{bound_binding, AreBinders, is_self, is_bound_once};
 
-use hir_ids::{Namers, Test, binding_of, namers_of};
-use hir_raw::{RawBody, RawFacts, RawPat};
-use hir_schedule::schedule_of;
+use hir_counts::hir_ids::{Namers, Test, binding_of, namers_of};
+use hir_counts::hir_raw::{RawBody, RawFacts, RawPat};
+use hir_counts::hir_schedule::schedule_of;
 use hir_types::BindingId;
 use std::alloc::{AllocError, Global};
 

@@ -3,13 +3,8 @@ use Rattle.std.proofs.Common.{◌≡◌, inl, inr, ℕ, ◌+◌, ◌<◌, Bool, 
 use Rattle.std.specs.Prelude.{◌↔◌, slice_get, IsTrue}
 use Rattle.std.proofs.lemmas.List.{get_or_push, get_or_append_left, length_push}
 use Rattle.std.proofs.Math.Nat.{eq-or-lt_of_le}
-use Rattle.hir_raw.specs.declared.raw.RawFn.{RawFn}
-use Rattle.hir_raw.specs.declared.raw.RawFacts.{RawFacts}
-use Rattle.hir_facts.specs.Lawful.{IsLawful}
-use Rattle.hir_facts.specs.WrittenFits.{inputs_fit, output_fits}
-use Rattle.hir_facts.specs.Plain.{IsPlainSignature}
-use Rattle.hir_facts.specs.PlainMarks.{IsMarked, ArePlainNodes}
-use Rattle.hir_plain.specs.PlainGraph.{HasMarkedSignature}
+use Rattle.hir_plain.specs.Words.{RawFn, RawFacts, IsLawful, inputs_fit, output_fits, IsPlainSignature, IsMarked, ArePlainNodes}
+use Rattle.hir_plain.specs.Own.{HasMarkedSignature}
 
 -- where the types of a signature are marked, they are plain
 pub signature_plain : (raw : RawFacts) (nodes : List Bool) (f : ℕ) (x : RawFn) → IsLawful raw → ArePlainNodes raw nodes → slice_get raw.fns f ≡ Some x → HasMarkedSignature raw nodes x → IsPlainSignature raw x

@@ -3,3 +3,4 @@ pub mod Spreading
 pub mod UsersOf
 pub mod PlainGraph
 pub mod FnMarks
+pub mod Words

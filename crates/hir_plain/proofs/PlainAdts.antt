@@ -1,9 +1,8 @@
 -- The plain adts are the largest set of adts that are plain where all of the set are.
 use Rattle.std.specs.Prelude.{ℕ, Bool, IsTrue}
-use Rattle.hir_raw.specs.declared.raw.RawType.{RawType}
-use Rattle.hir_raw.specs.declared.raw.RawType.TheVariants as type
-use Rattle.hir_raw.specs.declared.raw.RawFacts.{RawFacts}
-use Rattle.hir_facts.specs.Plain.{IsPlainKind, IsPlainType, plain, IsPlainWhere, IsPlainSet, IsPlainAdt}
+use Rattle.hir_plain.specs.Words.{RawType, RawFacts, IsPlainKind, IsPlainType, IsPlainWhere, IsPlainSet, IsPlainAdt}
+use Rattle.hir_plain.specs.Words.hir_raw.declared.raw.RawType.TheVariants as type
+use Rattle.hir_plain.specs.Words.hir_facts.Plain.{plain}
 
 kind_more : (raw : RawFacts) (P Q : ℕ → Type 0) (n : ℕ) → ((a : ℕ) → P a → Q a) → (x : RawType) → IsPlainKind raw P n x → IsPlainKind raw Q n x
 kind_more raw P Q n more type.Bool h = h

@@ -4,30 +4,14 @@ use Rattle.std.specs.Prelude.{slice_get, IsTrue, flat_map}
 use Rattle.std.proofs.lemmas.Bool.{cases_lt}
 use Rattle.std.proofs.lemmas.List.{get_or_append_left, get_or-append-add, length-map}
 use Rattle.std.proofs.lemmas.Option.{slice_get_within}
-use Rattle.hir_types.specs.declared.ids.TypeRefId.{TypeRefId}
-use Rattle.hir_types.specs.declared.ids.VariantId.{VariantId}
-use Rattle.hir_raw.specs.declared.raw.RawType.{RawType}
-use Rattle.hir_raw.specs.declared.raw.RawType.TheVariants as type
-use Rattle.hir_raw.specs.declared.raw.RawAdt.{RawAdt}
-use Rattle.hir_raw.specs.declared.raw.RawField.{RawField}
-use Rattle.hir_raw.specs.declared.raw.RawVariant.{RawVariant}
-use Rattle.hir_raw.specs.declared.raw.RawFacts.{RawFacts}
-use Rattle.hir_raw.specs.Hidden.{is_alias}
-use Rattle.hir_raw.specs.WrittenTypes.{type_parts}
-use Rattle.hir_schedule.specs.Graph.{KidsFit, Edge, kids_of}
-use Rattle.hir_facts.specs.NoHoles.{In, in_first, in_last}
-use Rattle.hir_facts.specs.Ids.{ItemExists, IsVariantOf}
-use Rattle.hir_facts.specs.Projections.{is_one, in_part, IsNoProjection}
-use Rattle.hir_facts.specs.WrittenFits.{FitsThere, FitsUnder, OwnFits, fits_direct, own_fits, parts_fit, fields_fit}
-use Rattle.hir_facts.specs.Lawful.{IsLawful}
-use Rattle.hir_facts.specs.LawfulFacts.{type_ids, type_ids_exist, adt_ids, types_small}
-use Rattle.hir_facts.specs.PlainMarks.{IsMarked, ArePlainNodes}
-use Rattle.hir_plain.specs.Spread.{IsUnmarked, ComesToBad, is_bad, by_child, AreGood}
-use Rattle.hir_facts.specs.Plain.{has_plain_params, fields_by, adt_fields, IsPlainKind, IsPlainType, plain, IsPlainWhere, IsPlainSet, IsPlainAdt}
+use Rattle.hir_plain.specs.Words.{TypeRefId, VariantId, RawType, RawAdt, RawField, RawVariant, RawFacts, is_alias, type_parts, KidsFit, Edge, kids_of, In, in_first, in_last, ItemExists, IsVariantOf, is_one, IsNoProjection, FitsThere, FitsUnder, OwnFits, fits_direct, own_fits, parts_fit, fields_fit, IsLawful, type_ids, type_ids_exist, adt_ids, types_small, IsMarked, ArePlainNodes, has_plain_params, fields_by, adt_fields, IsPlainKind, IsPlainType, IsPlainWhere, IsPlainSet, IsPlainAdt}
+use Rattle.hir_plain.specs.Words.hir_raw.declared.raw.RawType.TheVariants as type
+use Rattle.hir_plain.specs.Words.hir_facts.Projections.{in_part}
+use Rattle.hir_plain.specs.Own.{IsUnmarked, ComesToBad, is_bad, by_child, AreGood, named_adt, type_children, field_ids, adt_children, plain_graph, is_fine_type, fine_nodes}
+use Rattle.hir_plain.specs.Words.hir_facts.Plain.{plain}
 use Rattle.hir_plain.proofs.PlainAdts.{type_more, in_plain_set, plain_where_plain}
-use Rattle.hir_plain.specs.PlainGraph.{named_adt, type_children, field_ids, adt_children, plain_graph, is_fine_type, fine_nodes}
 use Rattle.hir_plain.proofs.Spreading.{marked_or_not, in_split, edge_inside}
-use Rattle.hir_facts.proofs.PlainFns.{marked_inside}
+use Rattle.hir_plain.proofs.Words.{marked_inside}
 
 -- ---- lists
 

@@ -3,11 +3,9 @@ use Rattle.std.proofs.Common.{◌≡◌, ◌⊎◌, inl, inr, ℕ, zero, suc, �
 use Rattle.std.specs.Prelude.{slice_get, slice_set, if◌then◌else◌}
 use Rattle.std.proofs.lemmas.Bool.{cases_lt, cases_eq}
 use Rattle.std.proofs.lemmas.List.{get_or_past, length_push}
-use Rattle.hir_schedule.specs.Graph.{KidsFit, Edge, kids_of}
-use Rattle.hir_facts.specs.NoHoles.{In, in_first, in_last}
-use Rattle.hir_facts.specs.PlainMarks.{IsMarked}
-use Rattle.hir_facts.proofs.PlainFns.{marked_inside}
-use Rattle.hir_plain.specs.Spread.{IsUnmarked, ComesToBad, is_bad, by_child, users_at, AreUsers, Marks, unmarked}
+use Rattle.hir_plain.specs.Words.{KidsFit, Edge, kids_of, In, in_first, in_last, IsMarked}
+use Rattle.hir_plain.proofs.Words.{marked_inside}
+use Rattle.hir_plain.specs.Own.{IsUnmarked, ComesToBad, is_bad, by_child, users_at, AreUsers, Marks, unmarked}
 
 told : (b : Bool) → (b ≡ true) ⊎ (b ≡ false)
 told true = inl refl

@@ -4,10 +4,8 @@ use Rattle.std.specs.Prelude.{slice_set}
 use Rattle.std.proofs.lemmas.Bool.{cases_eq}
 use Rattle.std.proofs.lemmas.List.{take_more}
 use Rattle.std.proofs.Math.Nat.{eq-or-lt_of_le}
-use Rattle.hir_schedule.specs.Graph.{Edge, kids_of}
-use Rattle.hir_facts.specs.NoHoles.{In, in_first, in_last}
-use Rattle.hir_facts.specs.PlainMarks.{IsMarked}
-use Rattle.hir_plain.specs.Spread.{IsUnmarked, users_at, AreUsers, AddsUser}
+use Rattle.hir_plain.specs.Words.{Edge, kids_of, In, in_first, in_last, IsMarked}
+use Rattle.hir_plain.specs.Own.{IsUnmarked, users_at, AreUsers, AddsUser}
 use Rattle.hir_plain.proofs.Spreading.{in_split, in_one}
 
 -- ---- one more user of one node

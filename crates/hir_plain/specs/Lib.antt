@@ -1,2 +1,4 @@
 pub mod Spread
 pub mod PlainGraph
+pub mod Words
+pub mod Own

@@ -1,15 +1,7 @@
 -- What written types and adts are made of, as a graph, and which of them may be plain.
 use Rattle.std.specs.Prelude.{◌≡◌, ◌+◌, ℕ, Bool, true, false, List, [], ◌∷◌, ◌++◌, map, length, slice_get, Option, Some, None, flat_map, IsTrue}
-use Rattle.hir_types.specs.declared.ids.TypeRefId.{TypeRefId}
-use Rattle.hir_raw.specs.declared.raw.RawType.{RawType}
-use Rattle.hir_raw.specs.declared.raw.RawType.TheVariants as type
-use Rattle.hir_raw.specs.declared.raw.RawAdt.{RawAdt}
-use Rattle.hir_raw.specs.declared.raw.RawVariant.{RawVariant}
-use Rattle.hir_raw.specs.declared.raw.RawFn.{RawFn}
-use Rattle.hir_raw.specs.declared.raw.RawFacts.{RawFacts}
-use Rattle.hir_raw.specs.WrittenTypes.{type_parts}
-use Rattle.hir_facts.specs.Plain.{has_plain_params, has_plain_header}
-use Rattle.hir_facts.specs.PlainMarks.{IsMarked}
+use Rattle.hir_plain.specs.Words.{TypeRefId, RawType, RawAdt, RawVariant, RawFn, RawFacts, type_parts, has_plain_params, has_plain_header, IsMarked}
+use Rattle.hir_plain.specs.Words.hir_raw.declared.raw.RawType.TheVariants as type
 
 -- ---- the graph: the nodes are the written types, and then the adts
 

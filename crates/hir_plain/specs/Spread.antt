@@ -1,8 +1,6 @@
 -- The nodes of a graph from which no way leads to a bad node, and how they are found.
 use Rattle.std.specs.Prelude.{ℕ, ◌<◌, ◌≡◌, ◌⊎◌, Bool, true, false, List, [], ◌∷◌, ◌++◌, length, get_or, slice_set, if◌then◌else◌}
-use Rattle.hir_schedule.specs.Graph.{Edge}
-use Rattle.hir_facts.specs.NoHoles.{In}
-use Rattle.hir_facts.specs.PlainMarks.{IsMarked}
+use Rattle.hir_plain.specs.Words.{Edge, In, IsMarked}
 use Rattle.hir_plain.specs.declared.spread.Spread.{Spread}
 
 -- the node n is not marked

@@ -1,15 +1,12 @@
 //! Which written types, adts and functions are plain.
 ghost use Rattle.std.specs.Prelude.{◌≡◌, ◌↔◌, ◌<◌, ◌^◌, ◌++◌, ℕ, Some, map, length, slice_get, IfOk, IsTrue, OnOk};
-ghost use Rattle.hir_types.specs.declared.ids.TypeRefId.{TypeRefId};
-ghost use Rattle.hir_facts.specs.Lawful.{IsLawful};
-ghost use Rattle.hir_facts.specs.PlainMarks.{IsMarked, ArePlainNodes, ArePlainMarks};
-ghost use Rattle.hir_facts.specs.Plain.{is_plain_adt_kind, has_plain_params, has_plain_header, IsPlainSignature};
-ghost use Rattle.hir_plain.specs.PlainGraph.{named_adt, type_children, field_ids, adt_children, plain_graph, is_fine_type, fine_nodes, HasMarkedSignature};
+ghost use Rattle.hir_plain.specs.Words.{TypeRefId, IsLawful, IsMarked, ArePlainNodes, ArePlainMarks, is_plain_adt_kind, has_plain_params, has_plain_header, IsPlainSignature};
+ghost use Rattle.hir_plain.specs.Own.{named_adt, type_children, field_ids, adt_children, plain_graph, is_fine_type, fine_nodes, HasMarkedSignature};
 
 use crate::spread::good_nodes;
-use hir_facts::{PlainMarks, are_sized_preds, mark_at};
 use hir_ids::are_type_params;
-use hir_raw::{RawAdt, RawAdtKind, RawAt, RawFacts, RawField, RawFn, RawType, RawVariant};
+use hir_ids::hir_facts::{PlainMarks, are_sized_preds, mark_at};
+use hir_ids::hir_raw::{RawAdt, RawAdtKind, RawAt, RawFacts, RawField, RawFn, RawType, RawVariant};
 use hir_types::{List, TypeRefId, VariantId};
 use std::alloc::{AllocError, Global};
 

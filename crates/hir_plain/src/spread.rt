@@ -1,8 +1,7 @@
 //! The nodes of a graph from which no way leads to a bad node.
 ghost use Rattle.std.specs.Prelude.{◌≡◌, ◌<◌, ◌++◌, ◌∷◌, [], ℕ, Some, fold, length, replicate, slice_get, slice_set, IfOk, OnOk};
-ghost use Rattle.hir_schedule.specs.Graph.{KidsFit};
-ghost use Rattle.hir_facts.specs.NoHoles.{In};
-ghost use Rattle.hir_plain.specs.Spread.{IsUnmarked, AreGood, users_at, AreUsers, AddsUser, marks_of, unmarked};
+ghost use Rattle.hir_plain.specs.Words.{KidsFit, In};
+ghost use Rattle.hir_plain.specs.Own.{IsUnmarked, AreGood, users_at, AreUsers, AddsUser, marks_of, unmarked};
 
 use hir_types::List;
 use std::alloc::{AllocError, Global};

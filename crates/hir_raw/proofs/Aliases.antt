@@ -6,13 +6,8 @@ use Rattle.std.proofs.Common.{arith, ap, sym, ◌∙◌, length-append}
 use Rattle.std.proofs.lemmas.List.{drop_more, get_or-map, length-map, take_all}
 use Rattle.std.proofs.lemmas.List.Folds.{flat_map-map}
 use Rattle.std.proofs.lemmas.Option.{slice_get_read, slice_get_past}
-use Rattle.hir_types.specs.declared.ids.TypeRefId.{TypeRefId}
-use Rattle.hir_raw.specs.declared.raw.RawField.{RawField}
-use Rattle.hir_raw.specs.declared.raw.RawFn.{RawFn}
-use Rattle.hir_raw.specs.declared.raw.RawType.{RawType}
-use Rattle.hir_raw.specs.WrittenTypes.{type_parts}
-use Rattle.hir_raw.specs.Scope.{has_params}
-use Rattle.hir_raw.specs.Hidden.{is_alias, aliases_by, aliases_within, parts_aliases, aliases_at, aliases_in, fn_aliases, field_refs, less}
+use Rattle.hir_raw.specs.Words.{TypeRefId}
+use Rattle.hir_raw.specs.Own.{RawField, RawFn, RawType, type_parts, has_params, is_alias, aliases_by, aliases_within, parts_aliases, aliases_at, aliases_in, fn_aliases, field_refs, less}
 
 -- ---- at a type
 

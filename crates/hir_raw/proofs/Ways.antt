@@ -4,10 +4,8 @@ use Rattle.std.specs.Prelude.{slice_get, slice_index, option_map}
 use Rattle.std.specs.Option.{option_and_then}
 use Rattle.std.proofs.lemmas.Bool.{cases_lt, cases_order}
 use Rattle.std.proofs.lemmas.Option.{option_and_then_some}
-use Rattle.hir_types.specs.declared.ids.ExprOrPatId.{ExprOrPatId}
-use Rattle.hir_raw.specs.declared.raw.RawBody.{RawBody}
-use Rattle.hir_raw.specs.declared.schedule.Schedule.{Schedule}
-use Rattle.hir_raw.specs.Order.{AreDepths, position, Part, Node, the_body, inner, IsInBody, IsNode, parts, part_at, follow, IsTree, PartsFit, start, end, after, Fits, IsSchedule}
+use Rattle.hir_raw.specs.Words.{ExprOrPatId}
+use Rattle.hir_raw.specs.Own.{RawBody, Schedule, AreDepths, position, Part, Node, the_body, inner, IsInBody, IsNode, parts, part_at, follow, IsTree, PartsFit, start, end, after, Fits, IsSchedule}
 
 -- a part of a node with this number among the numbers below it
 pub record Under (b : RawBody) (s : Schedule) (n : Node) (number : ℕ) : Type 0 where

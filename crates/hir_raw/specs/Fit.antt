@@ -1,13 +1,7 @@
 -- Types that name what there is.
 use Rattle.std.specs.List.{list_all}
 use Rattle.std.specs.Prelude.{ℕ, Bool, true, false, ◌&&◌, nat_lt, List, [], ◌∷◌, length, slice_get, Option, Some, None}
-use Rattle.hir_types.specs.declared.ids.GenericDefId.{GenericDefId}
-use Rattle.hir_types.specs.declared.ids.TraitId.{TraitId}
-use Rattle.hir_types.specs.declared.ty.Ty.{Ty, Ty-F, fold-Ty}
-use Rattle.hir_types.specs.declared.ty.AliasBound.{AliasBound-F}
-use Rattle.hir_types.specs.declared.ty.GenericArg.{GenericArg, GenericArg-F, fold-GenericArg}
-use Rattle.hir_types.specs.declared.ty.TraitRef.{TraitRef-F}
-use Rattle.hir_types.specs.declared.ty.Const.{Const}
+use Rattle.hir_raw.specs.Words.{GenericDefId, TraitId, Ty, Ty-F, fold-Ty, AliasBound-F, GenericArg, GenericArg-F, fold-GenericArg, TraitRef-F, Const}
 use Rattle.hir_types.specs.declared.ty.Const.TheVariants as const
 use Rattle.hir_raw.specs.declared.raw.RawFacts.{RawFacts}
 use Rattle.hir_raw.specs.Scope.{Scope, adt_params, alias_params_by, callable_params, has_params, item_scope}

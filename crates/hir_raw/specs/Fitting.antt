@@ -3,24 +3,8 @@ use Rattle.std.proofs.Common.{◌≡◌, refl, sym, ap, ◌∙◌, Bool, true, f
 use Rattle.std.proofs.lemmas.List.{length-map}
 use Rattle.std.specs.List.{list_all}
 use Rattle.std.specs.Prelude.{slice_get}
-use Rattle.hir_types.specs.declared.ids.AdtId.{AdtId}
-use Rattle.hir_types.specs.declared.ids.CallableDefId.{CallableDefId}
-use Rattle.hir_types.specs.declared.ids.ClosureId.{ClosureId}
-use Rattle.hir_types.specs.declared.ids.OpaqueId.{OpaqueId}
-use Rattle.hir_types.specs.declared.ids.TraitId.{TraitId}
-use Rattle.hir_types.specs.declared.ids.TypeAliasId.{TypeAliasId}
-use Rattle.hir_types.specs.declared.ty.IntTy.{IntTy}
-use Rattle.hir_types.specs.declared.ty.UintTy.{UintTy}
-use Rattle.hir_types.specs.declared.ty.FloatTy.{FloatTy}
-use Rattle.hir_types.specs.declared.ty.Mutability.{Mutability}
-use Rattle.hir_types.specs.declared.ty.Safety.{Safety}
-use Rattle.hir_types.specs.declared.ty.Region.{Region}
-use Rattle.hir_types.specs.declared.ty.Const.{Const}
-use Rattle.hir_types.specs.declared.ty.GenericArg.{GenericArg, GenericArg-F, fold-roll-GenericArg}
+use Rattle.hir_raw.specs.Words.{AdtId, CallableDefId, ClosureId, OpaqueId, TraitId, TypeAliasId, IntTy, UintTy, FloatTy, Mutability, Safety, Region, Const, GenericArg, GenericArg-F, fold-roll-GenericArg, TraitRef, AliasBound, Ty, Ty-F, fold-roll-Ty}
 use Rattle.hir_types.specs.declared.ty.GenericArg.TheVariants as arg
-use Rattle.hir_types.specs.declared.ty.TraitRef.{TraitRef}
-use Rattle.hir_types.specs.declared.ty.AliasBound.{AliasBound}
-use Rattle.hir_types.specs.declared.ty.Ty.{Ty, Ty-F, fold-roll-Ty}
 use Rattle.hir_types.specs.declared.ty.Ty.TheVariants as ty
 use Rattle.hir_raw.specs.Scope.{Scope, adt_params, alias_params_by, callable_params, has_params}
 use Rattle.hir_raw.specs.Fit.{const_fits, fits_arg, fits_step, fits_bound, fits_trait, ty_fits, arg_fits, names_none}

@@ -1,7 +1,6 @@
 -- The parts of goals, and which of them speak of sizes.
 use Rattle.std.specs.Prelude.{Bool, false, ◌==◌, List, []}
-use Rattle.hir_types.specs.declared.ids.TraitId.{TraitId}
-use Rattle.hir_types.specs.declared.ids.TypeRefId.{TypeRefId}
+use Rattle.hir_raw.specs.Words.{TraitId, TypeRefId}
 use Rattle.hir_raw.specs.declared.raw.RawArgs.{RawArgs}
 use Rattle.hir_raw.specs.declared.raw.RawArgs.TheVariants as args
 use Rattle.hir_raw.specs.declared.raw.RawLang.{RawLang}

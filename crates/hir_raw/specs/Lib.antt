@@ -10,3 +10,5 @@ pub mod Fitting
 pub mod Signatures
 pub mod Mentions
 pub mod Goals
+pub mod Words
+pub mod Own

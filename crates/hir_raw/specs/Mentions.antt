@@ -1,8 +1,6 @@
 -- What each node of a body names beside its parts, kind by kind. What the laws say of nodes is said of their parts and of this.
 use Rattle.std.specs.Prelude.{ℕ, suc, ◌+◌, ◌≡◌, List, [], ◌∷◌, ◌++◌, length, map, flat_map, slice_get, Option, Some, None}
-use Rattle.hir_types.specs.declared.ids.LabelId.{LabelId}
-use Rattle.hir_types.specs.declared.ids.BindingId.{BindingId}
-use Rattle.hir_types.specs.declared.ids.TypeRefId.{TypeRefId}
+use Rattle.hir_raw.specs.Words.{LabelId, BindingId, TypeRefId}
 use Rattle.hir_types.specs.declared.ids.ExprOrPatId.TheVariants as node
 use Rattle.hir_raw.specs.declared.mention.LabelRole.TheVariants as labelled
 use Rattle.hir_raw.specs.declared.mention.Mention.{Mention}

@@ -2,14 +2,9 @@
 use Rattle.std.specs.Prelude.{ℕ, ◌+◌, Bool, false, not, ◌||◌, ◌==◌, List, length, slice_get, Option, Some, None, option_map}
 use Rattle.std.specs.Option.{option_and_then}
 use Rattle.std.specs.List.{list_any}
-use Rattle.hir_types.specs.declared.ids.AdtId.{AdtId}
-use Rattle.hir_types.specs.declared.ids.CallableDefId.{CallableDefId}
+use Rattle.hir_raw.specs.Words.{AdtId, CallableDefId, DefWithBodyId, TraitId, TypeAliasId, GenericDefId}
 use Rattle.hir_types.specs.declared.ids.CallableDefId.TheVariants as callable
-use Rattle.hir_types.specs.declared.ids.DefWithBodyId.{DefWithBodyId}
 use Rattle.hir_types.specs.declared.ids.DefWithBodyId.TheVariants as def
-use Rattle.hir_types.specs.declared.ids.TraitId.{TraitId}
-use Rattle.hir_types.specs.declared.ids.TypeAliasId.{TypeAliasId}
-use Rattle.hir_types.specs.declared.ids.GenericDefId.{GenericDefId}
 use Rattle.hir_types.specs.declared.ids.GenericDefId.TheVariants as generic
 use Rattle.hir_raw.specs.declared.raw.RawAlias.{RawAlias}
 use Rattle.hir_raw.specs.declared.raw.RawPath.{RawPath}

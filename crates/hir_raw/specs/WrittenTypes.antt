@@ -1,12 +1,10 @@
 -- What a written type stands for.
 use Rattle.std.specs.Prelude.{◌≡◌, ℕ, zero, suc, List, [], map, slice_get, Option, Some, None}
-use Rattle.hir_types.specs.declared.ids.TypeRefId.{TypeRefId}
+use Rattle.hir_raw.specs.Words.{TypeRefId, Ty, integer_type}
 use Rattle.hir_raw.specs.declared.raw.RawType.{RawType}
 use Rattle.hir_raw.specs.declared.raw.RawType.TheVariants as type
-use Rattle.hir_types.specs.declared.ty.Ty.{Ty}
 use Rattle.hir_types.specs.declared.ty.Ty.TheVariants as ty
 use Rattle.hir_types.specs.declared.ty.GenericArg.TheVariants as arg
-use Rattle.hir_types.specs.Types.{integer_type}
 
 -- the types that a written type is made of
 abbrev pub type_parts : RawType → List TypeRefId

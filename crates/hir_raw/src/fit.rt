@@ -1,8 +1,7 @@
 //! Types that name what the facts have.
 ghost use Rattle.std.specs.Prelude.{◌≡◌};
 ghost use Rattle.std.specs.List.{list_all};
-ghost use Rattle.hir_raw.specs.Scope.{types_scope};
-ghost use Rattle.hir_raw.specs.Fit.{const_fits, names_none, ty_fits, arg_fits};
+ghost use Rattle.hir_raw.specs.Own.{types_scope, const_fits, names_none, ty_fits, arg_fits};
 
 use crate::raw::RawFacts;
 use crate::scope::{adt_params, alias_params, callable_has_params, has_params};

@@ -1,7 +1,6 @@
 //! Associated types in what functions and constructors take and give.
 ghost use Rattle.std.specs.Prelude.{◌≡◌, ◌++◌, length, IfOk, OnOk};
-ghost use Rattle.hir_raw.specs.Scope.{fn_arity, variant_arity};
-ghost use Rattle.hir_raw.specs.Hidden.{aliases_within, parts_aliases, fn_aliases, field_refs, variant_aliases, less};
+ghost use Rattle.hir_raw.specs.Own.{fn_arity, variant_arity, aliases_within, parts_aliases, fn_aliases, field_refs, variant_aliases, less};
 
 use crate::raw::{RawField, RawFn, RawType, RawVariant};
 use hir_types::TypeRefId;

@@ -1,7 +1,6 @@
 //! Associated types in the written types of `let`s.
 ghost use Rattle.std.specs.Prelude.{◌≡◌, ◌++◌, IfOk, OnOk, Some};
-ghost use Rattle.hir_raw.specs.Order.{stmts_of};
-ghost use Rattle.hir_raw.specs.Lets.{stmt_aliases, expr_aliases, let_aliases};
+ghost use Rattle.hir_raw.specs.Own.{stmts_of, stmt_aliases, expr_aliases, let_aliases};
 
 use crate::hidden::push_aliases;
 use crate::raw::{RawBody, RawExpr, RawStmt, RawType};

@@ -1,6 +1,6 @@
 //! The numbers of the nodes of a body in the order of the walk.
 ghost use Rattle.std.specs.Prelude.{◌≡◌, ◌<◌, ◌^◌};
-ghost use Rattle.hir_raw.specs.Order.{inner, position, node_count, start, end, IsInBody, IsSchedule};
+ghost use Rattle.hir_raw.specs.Own.{inner, position, node_count, start, end, IsInBody, IsSchedule};
 
 use crate::raw::RawBody;
 use hir_types::{ExprOrPatId, List};

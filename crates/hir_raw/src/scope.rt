@@ -1,8 +1,7 @@
 //! How many parameters items have.
 ghost use Rattle.std.specs.Prelude.{◌≡◌, option_map, slice_get};
 ghost use Rattle.std.specs.List.{list_any};
-ghost use Rattle.hir_raw.specs.Goals.{is_sized_lang};
-ghost use Rattle.hir_raw.specs.Scope.{fn_params, adt_params, variant_arity, callable_params, has_params, params_in_trait, alias_params_by, params_of_item, generic_params, is_size_goal, states_more, names_alias, has_associated};
+ghost use Rattle.hir_raw.specs.Own.{is_sized_lang, fn_params, adt_params, variant_arity, callable_params, has_params, params_in_trait, alias_params_by, params_of_item, generic_params, is_size_goal, states_more, names_alias, has_associated};
 ghost use Rattle.hir_types.specs.declared.ids.GenericDefId.TheVariants as generic;
 
 use crate::hidden::{less_fn_aliases, less_variant_aliases};

@@ -4,8 +4,7 @@ use Rattle.std.proofs.lemmas.List.{get_or-set_same, get_or-set_other, length-set
 use Rattle.std.proofs.lemmas.List.Elements.{Contains-push, Contains-append_left}
 use Rattle.std.proofs.lemmas.Bool.{cases_lt, cases_eq, false≢true}
 use Rattle.std.proofs.lemmas.Option.{slice_get_within}
-use Rattle.hir_schedule.specs.Graph.{kids_of, Edge}
-use Rattle.hir_schedule.specs.Visits.{Visited, is_seen, next_of, unseen, advanced, HasRoomFor}
+use Rattle.hir_schedule.specs.Own.{kids_of, Edge, Visited, is_seen, next_of, unseen, advanced, HasRoomFor}
 use Rattle.hir_schedule.proofs.Walking.{IsSeen, start_of, end_of, depth_of, on, Reaches, Passed, Goes, Stands, Walking, Keeps, other_seen, fewer_unseen, reaches_kept, passed_kept, goes_kept}
 
 -- a walk that enters c from the node n on top, of which it was not entered before

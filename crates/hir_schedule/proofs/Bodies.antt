@@ -4,15 +4,9 @@ use Rattle.std.specs.Prelude.{slice_get, option_map}
 use Rattle.std.proofs.lemmas.Bool.{cases_lt}
 use Rattle.std.proofs.lemmas.List.{length-append, length-map}
 use Rattle.std.proofs.lemmas.Option.{slice_get-map}
-use Rattle.hir_types.specs.declared.ids.ExprId.{ExprId}
-use Rattle.hir_types.specs.declared.ids.PatId.{PatId}
-use Rattle.hir_types.specs.declared.ids.ExprOrPatId.{ExprOrPatId}
+use Rattle.hir_schedule.specs.Words.{ExprId, PatId, ExprOrPatId, RawBody, RawExpr, RawPat, Node, the_body, inner, IsNode, expr_parts, pat_parts, body_parts, parts_of_expr, parts_of_pat, parts, position, node_count}
 use Rattle.hir_types.specs.declared.ids.ExprOrPatId.TheVariants as node
-use Rattle.hir_raw.specs.declared.raw.RawBody.{RawBody}
-use Rattle.hir_raw.specs.declared.raw.RawExpr.{RawExpr}
-use Rattle.hir_raw.specs.declared.raw.RawPat.{RawPat}
-use Rattle.hir_raw.specs.Order.{Node, the_body, inner, IsNode, expr_parts, pat_parts, body_parts, parts_of_expr, parts_of_pat, parts, position, node_count}
-use Rattle.hir_schedule.specs.Nodes.{nodes, node_lists, positions, graph_of}
+use Rattle.hir_schedule.specs.Own.{nodes, node_lists, positions, graph_of}
 
 -- ---- lists
 

@@ -3,8 +3,7 @@ use Rattle.std.proofs.Common.{◌≡◌, ◌≢◌, inl, inr, ℕ, suc, ◌+◌,
 use Rattle.std.specs.List.{Contains}
 use Rattle.std.proofs.lemmas.List.{get_or-set_same, get_or-set_other, length-set, length-take-le, get_or-take, get_or_default}
 use Rattle.std.proofs.lemmas.Bool.{cases_lt, cases_eq}
-use Rattle.hir_schedule.specs.Graph.{kids_of, Edge}
-use Rattle.hir_schedule.specs.Visits.{Visited, is_seen, next_of, departed, HasRoomFor}
+use Rattle.hir_schedule.specs.Own.{kids_of, Edge, Visited, is_seen, next_of, departed, HasRoomFor}
 use Rattle.hir_schedule.proofs.Walking.{IsSeen, start_of, end_of, depth_of, on, Reaches, Goes, Stands, Walking, Keeps, reaches_kept, passed_kept, entry_kept, goes_kept}
 
 -- a walk that leaves the node n on top, all children of which were entered

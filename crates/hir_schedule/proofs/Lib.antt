@@ -6,3 +6,4 @@ pub mod Steps
 pub mod NodeLists
 pub mod Bodies
 pub mod Schedules
+pub mod Words

@@ -1,19 +1,10 @@
 -- The nodes that something is made of, list by list.
 use Rattle.std.proofs.Common.{◌≡◌, ◌+◌, ◌<◌, ℕ, suc, List, [], ◌∷◌, ◌++◌, length, map, get_or, take, Option, Some, None, refl, sym, ap, ◌∙◌}
 use Rattle.std.proofs.lemmas.List.{append_assoc, map-append, take_more}
-use Rattle.hir_types.specs.declared.ids.ExprId.{ExprId}
-use Rattle.hir_types.specs.declared.ids.PatId.{PatId}
-use Rattle.hir_types.specs.declared.ids.ExprOrPatId.{ExprOrPatId}
+use Rattle.hir_schedule.specs.Words.{ExprId, PatId, ExprOrPatId, LabelId, RawBody, RawArm, RawPat, RawExpr, RawStmt, Role, Part, maybe_part, expr_parts, pat_parts, tail, element, argument, guard, arm, stmt_parts, stmts_parts, exprs_from, arm_patterns, arm_parts, arms_parts, subpatterns, param_parts, body_parts, expr_part, root}
 use Rattle.hir_types.specs.declared.ids.ExprOrPatId.TheVariants as node
-use Rattle.hir_types.specs.declared.ids.LabelId.{LabelId}
-use Rattle.hir_raw.specs.declared.raw.RawBody.{RawBody}
-use Rattle.hir_raw.specs.declared.raw.RawArm.{RawArm}
-use Rattle.hir_raw.specs.declared.raw.RawPat.{RawPat}
-use Rattle.hir_raw.specs.declared.raw.RawExpr.{RawExpr}
 use Rattle.hir_raw.specs.declared.raw.RawExpr.TheVariants as expr
-use Rattle.hir_raw.specs.declared.raw.RawStmt.{RawStmt}
-use Rattle.hir_raw.specs.Order.{Role, Part, maybe_part, expr_parts, pat_parts, tail, element, argument, guard, arm, stmt_parts, stmts_parts, exprs_from, arm_patterns, arm_parts, arms_parts, subpatterns, param_parts, body_parts, expr_part, root}
-use Rattle.hir_schedule.specs.Nodes.{nodes}
+use Rattle.hir_schedule.specs.Own.{nodes}
 
 pub nodes-append : (ps qs : List Part) → nodes (ps ++ qs) ≡ nodes ps ++ nodes qs
 nodes-append ps qs = map-append (λ (p : Part). p.node) ps qs

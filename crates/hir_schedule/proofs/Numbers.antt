@@ -6,9 +6,8 @@ use Rattle.std.proofs.lemmas.List.Elements.{Contains-push}
 use Rattle.std.proofs.lemmas.List.Folds.{sum_by-replicate}
 use Rattle.std.proofs.lemmas.Bool.{cases_lt, cases_eq, false≢true}
 use Rattle.std.proofs.lemmas.Option.{slice_get_within, option_and_then_some}
-use Rattle.hir_raw.specs.declared.schedule.Schedule.{Schedule}
-use Rattle.hir_schedule.specs.Graph.{kids_of, Edge, leads, OneWay, IsTreeGraph, IsNumbering, Follow, number_after, start_at, end_at}
-use Rattle.hir_schedule.specs.Visits.{Visited, next_of, unseen, blank, entered, MeetsAgain}
+use Rattle.hir_schedule.specs.Words.{Schedule}
+use Rattle.hir_schedule.specs.Own.{kids_of, Edge, leads, OneWay, IsTreeGraph, IsNumbering, Follow, number_after, start_at, end_at, Visited, next_of, unseen, blank, entered, MeetsAgain}
 use Rattle.hir_schedule.proofs.Walking.{IsSeen, start_of, end_of, depth_of, on, Passed, Ended, Entry, Goes, Stands, Walking, seen_in, blank_at, fewer_unseen, none_unseen}
 
 module _ (kids : List (List ℕ)) (root : ℕ) (inside : root < length kids) where

@@ -4,8 +4,7 @@ use Rattle.std.specs.Prelude.{slice_get}
 use Rattle.std.proofs.lemmas.Bool.{cases_lt}
 use Rattle.std.proofs.lemmas.List.{length_push, length-take-le}
 use Rattle.std.proofs.lemmas.Option.{slice_get_within, get_or_from_slice_get}
-use Rattle.hir_schedule.specs.Graph.{KidsFit}
-use Rattle.hir_schedule.specs.Visits.{Visited, next_of, unseen, Advances, Departs, advanced, departed}
+use Rattle.hir_schedule.specs.Own.{KidsFit, Visited, next_of, unseen, Advances, Departs, advanced, departed}
 use Rattle.hir_schedule.proofs.Walking.{IsSeen, on, Walking, seen_in}
 use Rattle.hir_schedule.proofs.Advances.{Entering, walking_on, fewer}
 use Rattle.hir_schedule.proofs.Departs.{Leaving, walking_back}

@@ -5,8 +5,7 @@ use Rattle.std.specs.List.{Contains}
 use Rattle.std.proofs.lemmas.List.{length-replicate, get_or-replicate, get_or_past}
 use Rattle.std.proofs.lemmas.List.Sums.{sum_by-set, get_or-le-sum_by}
 use Rattle.std.proofs.lemmas.Bool.{cases_lt, cases_Bool, false≢true}
-use Rattle.hir_schedule.specs.Graph.{kids_of, Edge, leads}
-use Rattle.hir_schedule.specs.Visits.{Visited, is_seen, next_of, unseen, HasRoomFor}
+use Rattle.hir_schedule.specs.Own.{kids_of, Edge, leads, Visited, is_seen, next_of, unseen, HasRoomFor}
 
 abbrev pub IsSeen : Visited → ℕ → Type 0
 IsSeen m n = is_seen m n ≡ true

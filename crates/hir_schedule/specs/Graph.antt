@@ -1,7 +1,7 @@
 -- Graphs by the lists of each node's children, and their numbers in the order of a walk from a root.
 use Rattle.std.specs.Prelude.{ℕ, ◌+◌, ◌<◌, ◌≡◌, List, [], ◌∷◌, length, get_or, slice_get, slice_index, Option, Some}
 use Rattle.std.specs.Option.{option_and_then}
-use Rattle.hir_raw.specs.declared.schedule.Schedule.{Schedule}
+use Rattle.hir_schedule.specs.Words.{Schedule}
 
 -- the children of the node n, in their order
 abbrev pub kids_of : List (List ℕ) → ℕ → List ℕ

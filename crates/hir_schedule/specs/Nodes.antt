@@ -1,8 +1,6 @@
 -- The nodes of a body as a graph.
 use Rattle.std.specs.Prelude.{ℕ, ◌≡◌, List, [], ◌∷◌, ◌++◌, map, slice_get, Some}
-use Rattle.hir_types.specs.declared.ids.ExprOrPatId.{ExprOrPatId}
-use Rattle.hir_raw.specs.declared.raw.RawBody.{RawBody}
-use Rattle.hir_raw.specs.Order.{Part, inner, IsInBody, expr_parts, pat_parts, body_parts, position}
+use Rattle.hir_schedule.specs.Words.{ExprOrPatId, RawBody, Part, inner, IsInBody, expr_parts, pat_parts, body_parts, position}
 
 abbrev pub nodes : List Part → List ExprOrPatId
 nodes ps = map (λ p. p.node) ps

@@ -1,7 +1,6 @@
 //! Numbers for the nodes of a graph in the order of a walk from a root.
 ghost use Rattle.std.specs.Prelude.{◌≡◌, ◌<◌, ◌-◌, false, length, replicate, slice_get, IfOk, OnOk, OnSome, MatchOption, MatchBool};
-ghost use Rattle.hir_schedule.specs.Graph.{kids_of, KidsFit, IsTreeGraph, IsNumbering};
-ghost use Rattle.hir_schedule.specs.Visits.{visited_by, blank, entered, departed, is_seen, HasRoomFor, MovesOn, MeetsAgain};
+ghost use Rattle.hir_schedule.specs.Own.{kids_of, KidsFit, IsTreeGraph, IsNumbering, visited_by, blank, entered, departed, is_seen, HasRoomFor, MovesOn, MeetsAgain};
 
 use hir_raw::Schedule;
 use hir_types::List;

@@ -1,8 +1,8 @@
 //! What an expression, a pattern or a body is made of, in the order of the walk.
 ghost use Rattle.std.specs.Prelude.{◌≡◌, ◌++◌, ℕ, map, IfOk, OnOk};
 ghost use Rattle.hir_types.specs.declared.ids.ExprOrPatId.TheVariants.{ExprId as expr_node, PatId as pat_node};
-ghost use Rattle.hir_raw.specs.Order.{Role, maybe_part, stmt_parts, stmts_parts, arm_parts, arms_parts, expr_parts, pat_parts, body_parts};
-ghost use Rattle.hir_schedule.specs.Nodes.{nodes};
+ghost use Rattle.hir_schedule.specs.Words.{Role, maybe_part, stmt_parts, stmts_parts, arm_parts, arms_parts, expr_parts, pat_parts, body_parts};
+ghost use Rattle.hir_schedule.specs.Own.{nodes};
 ghost use Rattle.hir_raw.specs.declared.raw.RawExpr.TheVariants.{If, Match, Call};
 
 use hir_raw::{RawArm, RawBody, RawExpr, RawPat, RawStmt};

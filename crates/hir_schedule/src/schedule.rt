@@ -1,8 +1,8 @@
 //! The order in which the walk comes to the nodes of a body.
 ghost use Rattle.std.specs.Prelude.{◌≡◌, ◌<◌, ◌^◌, ◌++◌, ◌↔◌, ℕ, map, slice_get, slice_index, EachIndex, ◌≤◌, Some, IfOk, IsTrue, OnOk, MatchOption};
-ghost use Rattle.hir_raw.specs.Order.{node_count, expr_parts, pat_parts, IsInBody, PartsFit, IsTree, IsLow, IsSchedule, AreDepths};
-ghost use Rattle.hir_types.specs.declared.ids.ExprOrPatId.{ExprOrPatId};
-ghost use Rattle.hir_schedule.specs.Nodes.{nodes, node_lists, positions, graph_of};
+ghost use Rattle.hir_schedule.specs.Words.{node_count, expr_parts, pat_parts, IsInBody, PartsFit, IsLow, IsSchedule, AreDepths, ExprOrPatId};
+ghost use Rattle.hir_raw.specs.Order.{IsTree};
+ghost use Rattle.hir_schedule.specs.Own.{nodes, node_lists, positions, graph_of};
 
 use crate::graph::number_graph;
 use crate::parts::{nodes_of_body, nodes_of_expr, nodes_of_pat};

@@ -11,23 +11,7 @@ use Rattle.std.specs.Cmp.{first_so, second_so, unsigned_Decides}
 use Rattle.std.specs.Option.{option_eq}
 use Rattle.std.specs.Cmp.Lexicographic.{pointwise, pointwise_decides}
 use Rattle.hir_types.proofs.ExactEquality.{IsExactAt, one_tells, pair_tells, items_tell, AreExactAt, by_tells, nat_tells}
-use Rattle.hir_types.specs.declared.ids.AdtId.{AdtId}
-use Rattle.hir_types.specs.declared.ids.TraitId.{TraitId}
-use Rattle.hir_types.specs.declared.ids.TypeAliasId.{TypeAliasId}
-use Rattle.hir_types.specs.declared.ids.OpaqueId.{OpaqueId}
-use Rattle.hir_types.specs.declared.ids.ClosureId.{ClosureId}
-use Rattle.hir_types.specs.declared.ids.CallableDefId.{CallableDefId}
-use Rattle.hir_types.specs.declared.ty.IntTy.{IntTy}
-use Rattle.hir_types.specs.declared.ty.UintTy.{UintTy}
-use Rattle.hir_types.specs.declared.ty.FloatTy.{FloatTy}
-use Rattle.hir_types.specs.declared.ty.Mutability.{Mutability}
-use Rattle.hir_types.specs.declared.ty.Safety.{Safety}
-use Rattle.hir_types.specs.declared.ty.Region.{Region}
-use Rattle.hir_types.specs.declared.ty.Const.{Const}
-use Rattle.hir_types.specs.declared.ty.TraitRef.{TraitRef, TraitRef-F, map-TraitRef, roll-TraitRef}
-use Rattle.hir_types.specs.declared.ty.AliasBound.{AliasBound, AliasBound-F, map-AliasBound, roll-AliasBound}
-use Rattle.hir_types.specs.declared.ty.Ty.{Ty, Ty-F, map-Ty, ind-Ty, roll-Ty, out-roll-Ty}
-use Rattle.hir_types.specs.declared.ty.GenericArg.{GenericArg, GenericArg-F, map-GenericArg, roll-GenericArg, out-roll-GenericArg}
+use Rattle.hir_types.specs.Own.{AdtId, TraitId, TypeAliasId, OpaqueId, ClosureId, CallableDefId, IntTy, UintTy, FloatTy, Mutability, Safety, Region, Const, TraitRef, TraitRef-F, map-TraitRef, roll-TraitRef, AliasBound, AliasBound-F, map-AliasBound, roll-AliasBound, Ty, Ty-F, map-Ty, ind-Ty, roll-Ty, out-roll-Ty, GenericArg, GenericArg-F, map-GenericArg, roll-GenericArg, out-roll-GenericArg}
 use Rattle.hir_types.specs.declared.ty.GenericArg.TheBlock.{the_members, the_sigs, the_carrier, split-Ty, split-GenericArg}
 use Rattle.hir_types.specs.declared.ty.GenericArg.TheViews.{parts_is-GenericArg}
 use Rattle.hir_types.specs.contracts.ty.Ty as ty

@@ -2,16 +2,10 @@
 use Rattle.std.specs.Prelude.{◌≡◌, ℕ, ◌+◌, Bool, false, ◌||◌, List, [], ◌∷◌, map, refl}
 use Rattle.std.specs.List.{list_any}
 use Rattle.std.proofs.Common.{sym, ◌∙◌, ap}
-use Rattle.hir_types.specs.declared.ids.AdtId.{AdtId}
-use Rattle.hir_types.specs.declared.ids.CallableDefId.{CallableDefId}
-use Rattle.hir_types.specs.declared.ty.GenericArg.{GenericArg, GenericArg-F, fold-GenericArg, fold-roll-GenericArg}
+use Rattle.hir_types.specs.Own.{AdtId, CallableDefId, GenericArg, GenericArg-F, fold-GenericArg, fold-roll-GenericArg, IntegerTy, Ty, Ty-F, fold-roll-Ty, integer_type, measured, measured_arg, measured_step, measured_bound, measured_trait, has_hole, hole_arg, hole_step, hole_bound, hole_trait}
 use Rattle.hir_types.specs.declared.ty.GenericArg.TheVariants as arg
-use Rattle.hir_types.specs.declared.ty.IntegerTy.{IntegerTy}
 use Rattle.hir_types.specs.declared.ty.IntegerTy.TheVariants.{Int, Uint}
-use Rattle.hir_types.specs.declared.ty.Ty.{Ty, Ty-F, fold-roll-Ty}
 use Rattle.hir_types.specs.declared.ty.Ty.TheVariants as ty
-use Rattle.hir_types.specs.Types.{integer_type, measured, measured_arg, measured_step, measured_bound, measured_trait}
-use Rattle.hir_types.specs.Erasure.{has_hole, hole_arg, hole_step, hole_bound, hole_trait}
 
 -- ---- levels and sizes
 

@@ -14,3 +14,4 @@ pub mod Types
 pub mod Erasure
 pub mod Fallback
 pub mod Faithful
+pub mod Own

@@ -1,7 +1,7 @@
 //! Types at the arguments of what declares their parameters.
 ghost use Rattle.std.specs.Prelude.{◌≡◌, IfOk, slice_get};
 ghost use Rattle.std.specs.Option.{option_copied};
-ghost use Rattle.hir_types.specs.Assigned.{with_params};
+ghost use Rattle.hir_types.specs.Own.{with_params};
 
 use crate::fold::TypeFolder;
 use crate::folded::Folded;

@@ -2,9 +2,7 @@
 ghost use Rattle.std.specs.Prelude.{◌≡◌, ◌++◌, ◌∷◌, [], map, IfOk, OnOk, option_map};
 ghost use Rattle.std.specs.List.{flat_map};
 ghost use Rattle.hir_types.specs.declared.head.Head.TheVariants as head;
-ghost use Rattle.hir_types.specs.Terms.{term, node, type_part, const_part, arg_term, trait_parts, bound_parts, principal_parts, auto_parts};
-ghost use Rattle.hir_types.specs.TermLaws.{parts_of_types};
-ghost use Rattle.hir_types.specs.Outlines.{part_term, part_terms, outline_term};
+ghost use Rattle.hir_types.specs.Own.{term, node, type_part, const_part, arg_term, trait_parts, bound_parts, principal_parts, auto_parts, parts_of_types, part_term, part_terms, outline_term};
 
 use crate::head::{Head, Hole};
 use crate::ids::TraitId;

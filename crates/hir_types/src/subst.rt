@@ -1,8 +1,7 @@
 //! Substitutions for holes.
 ghost use Rattle.std.specs.Prelude.{◌≡◌};
 ghost use Rattle.std.specs.Option.{option_copied};
-ghost use Rattle.hir_types.specs.Subst.{with_holes};
-ghost use Rattle.hir_types.specs.Assigned.{assignment_of, first_for};
+ghost use Rattle.hir_types.specs.Own.{with_holes, assignment_of, first_for};
 
 use crate::fold::TypeFolder;
 use crate::list::List;

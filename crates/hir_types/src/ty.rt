@@ -1,6 +1,6 @@
 //! Types.
 ghost use Rattle.std.specs.Prelude.{◌≡◌, ◌↔◌, IsTrue, IfOk};
-ghost use Rattle.hir_types.specs.Types.{integer_type};
+ghost use Rattle.hir_types.specs.Own.{integer_type};
 
 use crate::boxed::Boxed;
 use crate::ids::{AdtId, CallableDefId, ClosureId, OpaqueId, TraitId, TypeAliasId};

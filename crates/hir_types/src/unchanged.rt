@@ -1,6 +1,6 @@
 //! A fold that changes nothing, and so copies.
 ghost use Rattle.std.specs.Prelude.{◌≡◌, IfOk};
-ghost use Rattle.hir_types.specs.Subst.{with_holes, each_itself};
+ghost use Rattle.hir_types.specs.Own.{with_holes, each_itself};
 
 use crate::fold::{TypeFolder, fold_ty};
 use crate::folded::Folded;

@@ -30,7 +30,7 @@ use Rattle.hir_raw.specs.declared.raw.RawType.TheVariants as type
 use Rattle.infer_table.proofs.HoleLaws.{grew_twice, grew_by_hole}
 use Rattle.infer_table.proofs.UndoLaws.{grew_itself}
 use Rattle.infer_table.specs.Table.{hole_count, with_new_hole}
-use Rattle.infer_ctx.specs.Below.{stays_itself, stays_twice, stays_with}
+use Rattle.infer_ctx.specs.Words.{stays_itself, stays_twice, stays_with}
 use Rattle.infer_result.specs.declared.result.InferenceResult.{InferenceResult}
 use Rattle.infer_result.specs.Places.{Given, let_types, OnlyPlaceholdersHaveTypes, AreRecorded, declared, hole_type, IsPlaceholder, IsAsKnown}
 use Rattle.infer_result.specs.Table.{PlaceholderTy, recorded, At, WasSeen}

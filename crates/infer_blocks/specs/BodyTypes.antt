@@ -12,7 +12,7 @@ use Rattle.hir_raw.specs.Order.{stmt_at}
 use Rattle.hir_raw.specs.WrittenTypes.{filled_type, StandsIn}
 use Rattle.hir_raw.specs.declared.raw.RawStmt.TheVariants as stmt
 use Rattle.infer_table.specs.Table.{Grew, hole_count, with_new_hole}
-use Rattle.infer_ctx.specs.Below.{StaysButHoles}
+use Rattle.infer_ctx.specs.Words.{StaysButHoles}
 use Rattle.infer_result.specs.Places.{Given, let_types, declared, AreRecorded, IsPlaceholder, IsAsKnown}
 use Rattle.infer_result.specs.Table.{PlaceholderTy, recorded}
 use Rattle.infer_ctx.specs.Context.{with_table}

@@ -1,34 +1,11 @@
 -- The alternatives of a node, one of which gives it its value, and their common type.
 use Rattle.std.proofs.Common.{inl, inr, List, [], ◌∷◌, Option, Some, None, refl, ◌++◌, ℕ, ◌<◌, ◌≡◌, length, sym, ◌∙◌, subst, ◌⊎◌, Bool, true, false, ap}
 use Rattle.std.proofs.lemmas.Option.{slice_get_within}
-use Rattle.hir_types.specs.declared.ids.ExprId.{ExprId}
-use Rattle.hir_types.specs.declared.ty.Ty.{Ty}
-use Rattle.hir_types.specs.Erasure.{erased}
+use Rattle.infer_branches.specs.Words.{ExprId, Ty, erased, Role, then_branch, else_branch, arm, inner, RawBody, IsCarriedType, same_carried, Schedule, InferenceResult, Given, IsAt, StandsAt, IsBefore, AsksOfAlternative, AsksOf, Demand, HasMismatch, AnyMismatch, HasTy, mismatch, IsOfBody, TypeMismatch, IsMisfit, Extends, IsCarriedTable, Walks, Owed, OwedByAlternatives, expr_end, PaidBy, IsCarriedExpectation, Found, with_mismatch, OwnWalked, CoerceMany, common_of, MergesInto, CompletesAs, IsCoercedIf}
 use Rattle.hir_types.specs.declared.ids.ExprOrPatId.TheVariants as node
-use Rattle.hir_raw.specs.Order.{Role, then_branch, else_branch, arm, inner}
-use Rattle.hir_raw.specs.declared.raw.RawBody.{RawBody}
-use Rattle.hir_facts.specs.CarriedTypes.{IsCarriedType, same_carried}
-use Rattle.hir_raw.specs.declared.schedule.Schedule.{Schedule}
-use Rattle.infer_result.specs.declared.result.InferenceResult.{InferenceResult}
-use Rattle.infer_result.specs.Places.{Given, IsAt, StandsAt}
-use Rattle.infer_result.specs.Kinds.Alternative.{IsBefore, AsksOfAlternative}
-use Rattle.infer_result.specs.Demands.{AsksOf, Demand}
-use Rattle.infer_result.specs.Table.{HasMismatch, AnyMismatch, HasTy, mismatch}
-use Rattle.infer_result.specs.Closed.{IsOfBody}
-use Rattle.infer_result.specs.declared.result.TypeMismatch.{TypeMismatch}
-use Rattle.infer_result.specs.Made.{IsMisfit}
-use Rattle.infer_ctx.specs.Walks.{Extends, IsCarriedTable, Walks, Owed, OwedByAlternatives, expr_end, PaidBy}
-use Rattle.infer_ctx.specs.Context.{IsCarriedExpectation}
-use Rattle.infer_ctx.specs.Found.{Found, with_mismatch}
-use Rattle.infer_ctx.specs.Under.{OwnWalked}
-use Rattle.infer_ctx.proofs.Keeps.{is_at_kept, any_kept}
-use Rattle.infer_ctx.proofs.Category.{walks_paid}
-use Rattle.infer_ctx.proofs.Noted.{noted_extends, noted_walks, noted_has}
-use Rattle.infer_coerce.specs.declared.coerce_many.CoerceMany.{CoerceMany}
-use Rattle.infer_coerce.specs.Common.{common_of, MergesInto, CompletesAs}
-use Rattle.infer_coerce.specs.Coercions.{IsCoercedIf}
-use Rattle.infer_coerce.specs.declared.coerce_many.CoerceMany.TheVariants as common
-use Rattle.infer_branches.specs.Branches.{AllAtType, IsCommonFrom, AreMerged}
+use Rattle.infer_branches.proofs.Words.{is_at_kept, any_kept, walks_paid, noted_extends, noted_walks, noted_has}
+use Rattle.infer_branches.specs.Words.infer_coerce.declared.coerce_many.CoerceMany.TheVariants as common
+use Rattle.infer_branches.specs.Own.{AllAtType, IsCommonFrom, AreMerged}
 
 -- ---- what is judged stays so
 module _ (g : Given) (a b : InferenceResult) (x : Extends a b) where

@@ -2,28 +2,11 @@
 use Rattle.std.proofs.Common.{ℕ, List, get_or, None, ◌+◌, ◌<◌, ◌≤◌, ◌≡◌, length, Option, Some, sym, ap, subst, ◌∙◌, [], ◌∷◌, ◌++◌, take, drop, refl}
 use Rattle.std.proofs.lemmas.List.{take_more}
 use Rattle.std.proofs.Math.ListN.{drop_of_length-le}
-use Rattle.hir_types.specs.declared.ids.ExprId.{ExprId}
-use Rattle.hir_types.specs.declared.ty.Ty.{Ty}
-use Rattle.hir_types.specs.Subst.{folded}
+use Rattle.infer_branches.specs.Words.{ExprId, Ty, folded, RawArm, Part, after, arm, arms_parts, guard, inner, expr_part, maybe_part, Schedule, Given, arm_exprs, InferenceContext, Closes, found_under, expected_under, Before, CoerceDone, LieAhead, Nothing, OwedByAlternatives, CoerceMany, common_under, Completes, common_of}
 use Rattle.hir_types.specs.declared.ids.ExprOrPatId.TheVariants as node
 use Rattle.hir_types.specs.declared.ty.Ty.TheVariants as ty
-use Rattle.hir_raw.specs.declared.raw.RawArm.{RawArm}
-use Rattle.hir_raw.specs.Order.{Part, after, arm, arms_parts, guard, inner, expr_part, maybe_part}
-use Rattle.hir_raw.specs.declared.schedule.Schedule.{Schedule}
-use Rattle.infer_result.specs.Places.{Given}
-use Rattle.infer_result.specs.Kinds.Match.{arm_exprs}
-use Rattle.infer_ctx.specs.declared.context.InferenceContext.{InferenceContext}
-use Rattle.infer_ctx.specs.Closings.{Closes, found_under, expected_under}
-use Rattle.infer_ctx.specs.Steps.{Before, CoerceDone}
-use Rattle.infer_ctx.specs.Under.{LieAhead}
-use Rattle.infer_ctx.specs.Walks.{Nothing, OwedByAlternatives}
-use Rattle.infer_ctx.proofs.AtEach.{follows_twice, closes_before, walking_after, follows_itself}
-use Rattle.infer_ctx.proofs.Category.{walks_refl, walks_trans, walks_paid}
-use Rattle.infer_ctx.proofs.FineTypes.{fine_expectation_grown, fine_bool}
-use Rattle.infer_ctx.proofs.Parts.{ahead_stands, ahead_left, ahead_right, after_append}
-use Rattle.infer_coerce.specs.declared.coerce_many.CoerceMany.{CoerceMany}
-use Rattle.infer_coerce.specs.Common.{common_under, Completes, common_of}
-use Rattle.infer_branches.specs.Branches.{BeforeArms, ArmsDone, AlternativeDone, BeforeGuard, GuardDone}
+use Rattle.infer_branches.proofs.Words.{follows_twice, closes_before, walking_after, follows_itself, walks_refl, walks_trans, walks_paid, fine_expectation_grown, fine_bool, ahead_stands, ahead_left, ahead_right, after_append}
+use Rattle.infer_branches.specs.Own.{BeforeArms, ArmsDone, AlternativeDone, BeforeGuard, GuardDone}
 use Rattle.infer_branches.proofs.Alternatives.{merged_kept}
 use Rattle.infer_branches.proofs.Arms.{AllGuards, all_taken, arm_exprs_more, arm_exprs_some, arm_step, arms_made, first_before, guards_kept, guards_push}
 use Rattle.infer_branches.proofs.InAlternatives.{AtAlternatives, begins_alternatives, bool_walked, comes_to_alternative, completed_follows, ends_alternatives, fine_common_grown, past_alternative}

@@ -2,30 +2,12 @@
 use Rattle.std.proofs.Common.{◌+◌, ◌≡◌, List, [], ◌∷◌, ◌++◌, refl, ap, ◌⊎◌, inl, inr, false, true, subst, IsTrue, ℕ, take, drop, sym, Option, suc, ◌<◌, length, get_or, ◌∙◌, arith, zero, append_assoc, ◌≤◌, append-nil}
 use Rattle.std.proofs.lemmas.List.{take-append-drop}
 use Rattle.std.proofs.Math.ListN.{drop_of_length-le}
-use Rattle.hir_types.specs.declared.ty.Ty.{Ty}
-use Rattle.hir_types.specs.declared.ids.ExprId.{ExprId}
+use Rattle.infer_branches.specs.Words.{Ty, ExprId, RawArm, guard, Part, arm_patterns, arms_parts, inner, after, expr_part, arm_pattern, pat_part, arm, maybe_part, arm_parts, RawBody, is_carried_expr, is_carried_body, Schedule, arm_exprs, ArmPatterns, GuardRule, ArmsRule, MatchRule, InferenceResult, Given, at_or_mismatch, AnyMismatch, TypeMismatch, ObeysOrMismatch, Extends, PaidBy, Owed, LieAhead, IsLess}
 use Rattle.hir_types.specs.declared.ids.ExprOrPatId.TheVariants as node
-use Rattle.hir_raw.specs.declared.raw.RawArm.{RawArm}
-use Rattle.hir_raw.specs.Order.{guard, Part, arm_patterns, arms_parts, inner, after, expr_part, arm_pattern, pat_part, arm, maybe_part, arm_parts}
-use Rattle.hir_raw.specs.declared.raw.RawBody.{RawBody}
-use Rattle.hir_facts.specs.Carried.{is_carried_expr, is_carried_body}
-use Rattle.hir_raw.specs.declared.schedule.Schedule.{Schedule}
-use Rattle.hir_raw.specs.declared.raw.RawExpr.TheVariants as expr
-use Rattle.infer_result.specs.Kinds.Match.{arm_exprs, ArmPatterns, GuardRule, ArmsRule, MatchRule}
-use Rattle.infer_result.specs.declared.result.InferenceResult.{InferenceResult}
-use Rattle.infer_result.specs.Places.{Given}
-use Rattle.infer_result.specs.Placing.{at_or_mismatch}
-use Rattle.infer_result.specs.Table.{AnyMismatch}
-use Rattle.infer_result.specs.declared.result.TypeMismatch.{TypeMismatch}
-use Rattle.infer_result.specs.Rules.{Rule, ObeysOrMismatch}
-use Rattle.infer_ctx.specs.Walks.{Extends, PaidBy, Owed}
-use Rattle.infer_ctx.specs.Under.{LieAhead}
-use Rattle.infer_ctx.specs.Context.{IsLess}
-use Rattle.infer_ctx.proofs.Keeps.{guard_kept}
-use Rattle.infer_ctx.proofs.Carried.{carried_expr}
-use Rattle.infer_ctx.proofs.Parts.{ahead_stands, ahead_left, ahead_right}
-use Rattle.infer_ctx.proofs.Lists.{drop-step}
-use Rattle.infer_branches.specs.Branches.{AllAtType, IsMatchOf}
+use Rattle.infer_branches.specs.Words.hir_raw.declared.raw.RawExpr.TheVariants as expr
+use Rattle.infer_branches.specs.Words.infer_result.Rules.{Rule}
+use Rattle.infer_branches.proofs.Words.{guard_kept, carried_expr, ahead_stands, ahead_left, ahead_right, drop-step}
+use Rattle.infer_branches.specs.Own.{AllAtType, IsMatchOf}
 use Rattle.infer_branches.proofs.Alternatives.{FirstBefore}
 
 -- ---- lists of arms

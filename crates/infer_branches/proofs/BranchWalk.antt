@@ -1,32 +1,11 @@
 -- The type of an `if`, part after part.
 use Rattle.std.proofs.Common.{sym, subst, Option, ap, ◌≡◌, Some, None, ◌∙◌, List, [], ◌∷◌, ℕ, slice_get}
-use Rattle.hir_types.specs.declared.ty.Ty.{Ty}
-use Rattle.hir_types.specs.Subst.{Assignment, folded}
-use Rattle.hir_types.specs.declared.ids.ExprId.{ExprId}
-use Rattle.hir_types.specs.Types.{unit}
+use Rattle.infer_branches.specs.Words.{Ty, Assignment, folded, ExprId, unit, Schedule, Part, inner, condition, then_branch, else_branch, expr_part, maybe_part, part_at, parts_of_expr, Given, IsAtOrMismatch, IsLess, expected_under, found_under, Closes, InferenceContext, CoerceDone, Before, Within, KindDone, KindWalked, LieAhead, Nothing, expr_end, common_under, common_of, Completes, Merges, MergesInto, CoerceMany}
 use Rattle.hir_types.specs.declared.ty.Ty.TheVariants as ty
 use Rattle.hir_types.specs.declared.ids.ExprOrPatId.TheVariants as node
-use Rattle.hir_raw.specs.declared.raw.RawExpr.TheVariants as expr
-use Rattle.hir_raw.specs.declared.schedule.Schedule.{Schedule}
-use Rattle.hir_raw.specs.Order.{Part, inner, condition, then_branch, else_branch, expr_part, maybe_part, part_at, parts_of_expr}
-use Rattle.infer_result.specs.Places.{Given, IsAtOrMismatch}
-use Rattle.infer_ctx.specs.Context.{IsLess}
-use Rattle.infer_ctx.specs.Closings.{expected_under, found_under, Closes}
-use Rattle.infer_ctx.specs.declared.context.InferenceContext.{InferenceContext}
-use Rattle.infer_ctx.specs.Steps.{CoerceDone, Before, Within, KindDone}
-use Rattle.infer_ctx.specs.Under.{KindWalked, LieAhead}
-use Rattle.infer_ctx.specs.Walks.{Nothing, expr_end}
-use Rattle.infer_ctx.proofs.FineTypes.{fine_bool, fine_expectation_grown}
-use Rattle.infer_ctx.proofs.AtEach.{follows_twice, closes_before, walking_after, within_under}
-use Rattle.infer_ctx.proofs.UnderClosings.{same_found, closes_earlier}
-use Rattle.infer_ctx.proofs.InParts.{WalksParts, begins_parts, comes_to, goes_past}
-use Rattle.infer_ctx.proofs.Keeps.{at_kept}
-use Rattle.infer_ctx.proofs.OverTypes.{carried_closed}
-use Rattle.infer_ctx.proofs.Tellings.{no_telling_if}
-use Rattle.infer_ctx.proofs.Types.{carried_unit}
-use Rattle.infer_coerce.specs.Common.{common_under, common_of, Completes, Merges, MergesInto}
-use Rattle.infer_coerce.specs.declared.coerce_many.CoerceMany.{CoerceMany}
-use Rattle.infer_branches.specs.Branches.{AlternativeDone, ElseDone, BeforeElse, IsIfOf}
+use Rattle.infer_branches.specs.Words.hir_raw.declared.raw.RawExpr.TheVariants as expr
+use Rattle.infer_branches.proofs.Words.{fine_bool, fine_expectation_grown, follows_twice, closes_before, walking_after, within_under, same_found, closes_earlier, WalksParts, begins_parts, comes_to, goes_past, at_kept, carried_closed, no_telling_if, carried_unit}
+use Rattle.infer_branches.specs.Own.{AlternativeDone, ElseDone, BeforeElse, IsIfOf}
 use Rattle.infer_branches.proofs.Alternatives.{StandsAs}
 use Rattle.infer_branches.proofs.Branches.{both_done, merged_done}
 use Rattle.infer_branches.proofs.InAlternatives.{AtAlternatives, bool_walked, less_fine, less_under, completed_fine, completed_follows, completes_under, begins_alternatives, comes_to_alternative, past_alternative, ends_alternatives}

@@ -1,34 +1,11 @@
 -- The type of an `if`: its condition, its branch, and the other branch or none.
 use Rattle.std.proofs.Common.{inl, inr, sym, subst, Option, ◌≡◌, ◌∙◌, Some, None, List, ◌∷◌, ◌<◌, Bool, [], length, ap, ◌⊎◌, true, false, refl}
-use Rattle.hir_types.specs.declared.ty.Ty.{Ty}
-use Rattle.hir_types.specs.declared.ids.ExprId.{ExprId}
-use Rattle.hir_types.specs.Erasure.{Same, erased}
-use Rattle.hir_types.specs.Types.{unit}
+use Rattle.infer_branches.specs.Words.{Ty, ExprId, Same, erased, unit, after, Schedule, IsCarriedType, same_carried, InferenceResult, Given, IsAtOrMismatch, IsAt, Demand, at_or_mismatch, IfRule, ObeysOrMismatch, AnyMismatch, mismatch, IsMisfit, IsCarriedExpectation, IsLess, Found, with_mismatch, Walks, OwedByAlternatives, expr_end, PaidBy, Extends, Owed, IsInside, KindWalked, CoerceMany, CompletesAs, MergesInto, IsCoercedIf}
 use Rattle.hir_types.specs.declared.ty.Ty.TheVariants as ty
-use Rattle.hir_raw.specs.Order.{after}
-use Rattle.hir_raw.specs.declared.schedule.Schedule.{Schedule}
-use Rattle.hir_facts.specs.CarriedTypes.{IsCarriedType, same_carried}
-use Rattle.infer_result.specs.declared.result.InferenceResult.{InferenceResult}
-use Rattle.infer_result.specs.Places.{Given, IsAtOrMismatch, IsAt}
-use Rattle.infer_result.specs.Demands.{Demand}
-use Rattle.infer_result.specs.Placing.{at_or_mismatch}
-use Rattle.infer_result.specs.Kinds.If.{IfRule}
-use Rattle.infer_result.specs.Rules.{Rule, ObeysOrMismatch}
-use Rattle.infer_result.specs.Table.{AnyMismatch, mismatch}
-use Rattle.infer_result.specs.Made.{IsMisfit}
-use Rattle.infer_ctx.specs.Context.{IsCarriedExpectation, IsLess}
-use Rattle.infer_ctx.specs.Found.{Found, with_mismatch}
-use Rattle.infer_ctx.specs.Walks.{Walks, OwedByAlternatives, expr_end, PaidBy, Extends, Owed}
-use Rattle.infer_ctx.specs.Under.{IsInside, KindWalked}
-use Rattle.infer_ctx.proofs.Keeps.{at_kept, alternative_kept, any_kept, extends_refl}
-use Rattle.infer_ctx.proofs.Category.{walks_paid}
-use Rattle.infer_ctx.proofs.Types.{carried_unit}
-use Rattle.infer_ctx.proofs.Noted.{noted_extends, noted_walks, noted_has}
-use Rattle.infer_coerce.specs.declared.coerce_many.CoerceMany.{CoerceMany}
-use Rattle.infer_coerce.specs.Common.{CompletesAs, MergesInto}
-use Rattle.infer_coerce.specs.Coercions.{IsCoercedIf}
-use Rattle.infer_coerce.specs.declared.coerce_many.CoerceMany.TheVariants as common
-use Rattle.infer_branches.specs.Branches.{IsIfOf, AllAtType, IsCommonFrom, AreMerged}
+use Rattle.infer_branches.specs.Words.infer_result.Rules.{Rule}
+use Rattle.infer_branches.proofs.Words.{at_kept, alternative_kept, any_kept, extends_refl, walks_paid, carried_unit, noted_extends, noted_walks, noted_has}
+use Rattle.infer_branches.specs.Words.infer_coerce.declared.coerce_many.CoerceMany.TheVariants as common
+use Rattle.infer_branches.specs.Own.{IsIfOf, AllAtType, IsCommonFrom, AreMerged}
 use Rattle.infer_branches.proofs.Alternatives.{Completed, completed_paid, common_carried}
 
 -- ---- what is expected of the branches

@@ -1,42 +1,11 @@
 -- One alternative of a node after another, over holes.
 use Rattle.std.proofs.Common.{inl, inr, sym, subst, Option, ap, ◌≡◌, refl, Some, None, ◌∙◌, arith, List, [], ◌∷◌, ◌++◌, ℕ}
-use Rattle.hir_types.specs.declared.ty.Ty.{Ty}
-use Rattle.hir_types.specs.Subst.{Assignment, folded, with_holes}
-use Rattle.hir_types.specs.declared.ids.ExprId.{ExprId}
-use Rattle.hir_types.specs.Replacements.{replaced_bool}
+use Rattle.infer_branches.specs.Words.{Ty, Assignment, folded, with_holes, ExprId, replaced_bool, Scope, Schedule, IsCarriedType, Role, Part, inner, expr_part, after, State, Grew, InferenceResult, Given, AsksOf, IsOfBody, IsLess, of_alternatives, of_arms, IsFineExpectation, expected_under, found_under, Closes, InferenceContext, OwnDone, Follows, CoerceDone, Before, CoerceWalked, LieAhead, IsReady, Walks, Nothing, OwedByAlternatives, Extends, expr_end, IsTold, common_under, common_of, IsFineCommon, Completes, CompletesAs, Merges, CoerceMany}
 use Rattle.hir_types.specs.declared.ty.Ty.TheVariants as ty
 use Rattle.hir_types.specs.declared.ids.ExprOrPatId.TheVariants as node
-use Rattle.hir_raw.specs.Scope.{Scope}
-use Rattle.hir_raw.specs.declared.schedule.Schedule.{Schedule}
-use Rattle.hir_facts.specs.CarriedTypes.{IsCarriedType}
-use Rattle.hir_raw.specs.Order.{Role, Part, inner, expr_part, after}
-use Rattle.infer_table.specs.Table.{State, Grew}
-use Rattle.infer_table.proofs.HoleLaws.{grew_twice}
-use Rattle.infer_result.specs.declared.result.InferenceResult.{InferenceResult}
-use Rattle.infer_result.specs.Places.{Given}
-use Rattle.infer_result.specs.Demands.{AsksOf}
-use Rattle.infer_result.specs.Closed.{IsOfBody}
-use Rattle.infer_ctx.specs.Context.{IsLess, of_alternatives, of_arms}
-use Rattle.infer_ctx.specs.Fine.{IsFineExpectation}
-use Rattle.infer_ctx.specs.Closings.{expected_under, found_under, Closes}
-use Rattle.infer_ctx.specs.declared.context.InferenceContext.{InferenceContext}
-use Rattle.infer_ctx.specs.Steps.{OwnDone, Follows, CoerceDone, Before}
-use Rattle.infer_ctx.specs.Under.{CoerceWalked, LieAhead, IsReady}
-use Rattle.infer_ctx.specs.Walks.{Walks, Nothing, OwedByAlternatives, Extends, expr_end}
-use Rattle.infer_ctx.proofs.Expected.{alternatives_less, arms_less}
-use Rattle.infer_ctx.proofs.FineTypes.{fine_grown, fine_expectation_grown}
-use Rattle.infer_ctx.specs.Asked.{IsTold}
-use Rattle.infer_ctx.proofs.Asked.{told_same}
-use Rattle.infer_ctx.proofs.AtEach.{follows_twice, closes_before, walking_after, expected_carried}
-use Rattle.infer_ctx.proofs.Category.{walks_trans, walks_paid}
-use Rattle.infer_ctx.proofs.UnderClosings.{same_found, closes_earlier}
-use Rattle.infer_ctx.proofs.OverTypes.{fine_closed}
-use Rattle.infer_ctx.proofs.Parts.{ahead_rest, ahead_stands}
-use Rattle.infer_coerce.specs.Common.{common_under, common_of, IsFineCommon, Completes, CompletesAs, Merges}
-use Rattle.infer_coerce.specs.declared.coerce_many.CoerceMany.{CoerceMany}
-use Rattle.infer_coerce.specs.declared.coerce_many.CoerceMany.TheVariants as common
-use Rattle.infer_coerce.proofs.Coercions.{owed_paid}
-use Rattle.infer_branches.specs.Branches.{AlternativeDone, AreMerged, GuardWalked}
+use Rattle.infer_branches.proofs.Words.{grew_twice, alternatives_less, arms_less, fine_grown, fine_expectation_grown, told_same, follows_twice, closes_before, walking_after, expected_carried, walks_trans, walks_paid, same_found, closes_earlier, fine_closed, ahead_rest, ahead_stands, owed_paid}
+use Rattle.infer_branches.specs.Words.infer_coerce.declared.coerce_many.CoerceMany.TheVariants as common
+use Rattle.infer_branches.specs.Own.{AlternativeDone, AreMerged, GuardWalked}
 use Rattle.infer_branches.proofs.Branches.{less_twice}
 use Rattle.infer_branches.proofs.Alternatives.{StandsAs, IsAlternative, FirstBefore, Alternatives, Completed, completed, none_merged, taken}
 

@@ -5,3 +5,4 @@ pub mod BranchWalk
 pub mod Branches
 pub mod InAlternatives
 pub mod PatternWalk
+pub mod Words

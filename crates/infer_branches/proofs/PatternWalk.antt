@@ -2,33 +2,11 @@
 use Rattle.std.proofs.Common.{ℕ, List, get_or, None, inr, ◌+◌, ◌<◌, ◌≤◌, ◌≡◌, length, Option, Some, subst, ◌∙◌, [], ◌∷◌, ◌++◌, take, drop}
 use Rattle.std.proofs.lemmas.List.{take_more}
 use Rattle.std.proofs.Math.ListN.{drop_of_length-le}
-use Rattle.hir_types.specs.declared.ids.ExprId.{ExprId}
-use Rattle.hir_types.specs.declared.ty.Ty.{Ty}
-use Rattle.hir_types.specs.Subst.{Assignment, folded}
+use Rattle.infer_branches.specs.Words.{ExprId, Ty, Assignment, folded, RawArm, Part, arm_pattern, arms_parts, inner, expr_part, pat_part, scrutinee, Schedule, Given, arm_exprs, ArmPatterns, at_or_mismatch, HasTy, InferenceContext, IsLess, Closes, found_under, expected_under, IsFine, Before, Within, CoerceDone, KindDone, Nothing, PaidBy, BeforePat, PatDone}
 use Rattle.hir_types.specs.declared.ids.ExprOrPatId.TheVariants as node
-use Rattle.hir_raw.specs.declared.raw.RawArm.{RawArm}
-use Rattle.hir_raw.specs.declared.raw.RawExpr.TheVariants as expr
-use Rattle.hir_raw.specs.Order.{Part, arm_pattern, arms_parts, inner, expr_part, pat_part, scrutinee}
-use Rattle.hir_raw.specs.declared.schedule.Schedule.{Schedule}
-use Rattle.infer_result.specs.Places.{Given}
-use Rattle.infer_result.specs.Kinds.Match.{arm_exprs, ArmPatterns}
-use Rattle.infer_result.specs.Placing.{at_or_mismatch}
-use Rattle.infer_result.specs.Table.{HasTy}
-use Rattle.infer_ctx.specs.declared.context.InferenceContext.{InferenceContext}
-use Rattle.infer_ctx.specs.Context.{IsLess}
-use Rattle.infer_ctx.specs.Closings.{Closes, found_under, expected_under}
-use Rattle.infer_ctx.specs.Fine.{IsFine}
-use Rattle.infer_ctx.specs.Steps.{Before, Within, CoerceDone, KindDone}
-use Rattle.infer_ctx.specs.Walks.{Nothing, PaidBy}
-use Rattle.infer_ctx.proofs.AtEach.{follows_twice, closes_before, walking_after}
-use Rattle.infer_ctx.proofs.Category.{walks_trans, walks_paid}
-use Rattle.infer_ctx.proofs.FineTypes.{fine_grown, fine_expectation_grown}
-use Rattle.infer_ctx.proofs.InParts.{WalksParts, begins_parts, comes_to, goes_past, goes_past_coerced}
-use Rattle.infer_ctx.proofs.Keeps.{arm_patterns_kept, arms_kept, extends_trans}
-use Rattle.infer_ctx.proofs.Parts.{ahead_stands}
-use Rattle.infer_ctx.proofs.Tellings.{no_telling_match, arm_tells}
-use Rattle.infer_pat.specs.Patterns.{BeforePat, PatDone}
-use Rattle.infer_branches.specs.Branches.{BeforeArms, ArmsDone, IsMatchOf}
+use Rattle.infer_branches.specs.Words.hir_raw.declared.raw.RawExpr.TheVariants as expr
+use Rattle.infer_branches.proofs.Words.{follows_twice, closes_before, walking_after, walks_trans, walks_paid, fine_grown, fine_expectation_grown, WalksParts, begins_parts, comes_to, goes_past, goes_past_coerced, arm_patterns_kept, arms_kept, extends_trans, ahead_stands, no_telling_match, arm_tells}
+use Rattle.infer_branches.specs.Own.{BeforeArms, ArmsDone, IsMatchOf}
 use Rattle.infer_branches.proofs.Arms.{after_patterns, all_taken, arms_some, obeys_match, paid_less, pattern_step, patterns_push}
 use Rattle.infer_branches.proofs.InAlternatives.{less_fine, less_under}
 

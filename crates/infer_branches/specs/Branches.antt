@@ -1,31 +1,9 @@
 -- What the walk over the alternatives of an `if` or a `match` is given, and what it does.
 use Rattle.std.specs.Prelude.{◌≡◌, slice_get, Option, Some, List, None, [], ◌∷◌, ℕ, ◌⊎◌, ◌<◌, length}
-use Rattle.hir_types.specs.declared.ids.ExprId.{ExprId}
-use Rattle.hir_types.specs.declared.ty.Ty.{Ty}
-use Rattle.hir_types.specs.Types.{unit}
-use Rattle.hir_types.specs.Subst.{Assignment, folded}
+use Rattle.infer_branches.specs.Words.{ExprId, Ty, unit, Assignment, folded, RawBody, RawArm, Schedule, after, maybe_part, guard, arms_parts, inner, else_branch, IsCarriedType, Given, IsAt, InferenceResult, HasTy, AnyMismatch, GuardRule, arm_exprs, ArmsRule, at_or_mismatch, Found, OwnWalked, IsReady, LieAhead, Walks, Nothing, PaidBy, InferenceContext, IsFineExpectation, IsFine, IsWalking, Follows, Does, Closes, found_under, expected_under, CoerceMany, MergesInto, common_under, IsFineCommon}
 use Rattle.hir_types.specs.declared.ids.ExprOrPatId.TheVariants as node
-use Rattle.hir_raw.specs.declared.raw.RawBody.{RawBody}
-use Rattle.hir_raw.specs.declared.raw.RawArm.{RawArm}
-use Rattle.hir_raw.specs.declared.schedule.Schedule.{Schedule}
-use Rattle.hir_raw.specs.Order.{after, maybe_part, guard, arms_parts, inner, else_branch}
-use Rattle.hir_facts.specs.CarriedTypes.{IsCarriedType}
-use Rattle.hir_raw.specs.declared.raw.RawExpr.TheVariants as expr
-use Rattle.infer_result.specs.Places.{Given, IsAt}
-use Rattle.infer_result.specs.declared.result.InferenceResult.{InferenceResult}
-use Rattle.infer_result.specs.Table.{HasTy, AnyMismatch}
-use Rattle.infer_result.specs.Kinds.Match.{GuardRule, arm_exprs, ArmsRule}
-use Rattle.infer_result.specs.Placing.{at_or_mismatch}
-use Rattle.infer_ctx.specs.Found.{Found}
-use Rattle.infer_ctx.specs.Under.{OwnWalked, IsReady, LieAhead}
-use Rattle.infer_ctx.specs.Walks.{Walks, Nothing, PaidBy}
-use Rattle.infer_ctx.specs.declared.context.InferenceContext.{InferenceContext}
-use Rattle.infer_ctx.specs.Fine.{IsFineExpectation, IsFine}
-use Rattle.infer_ctx.specs.Steps.{IsWalking, Follows, Does}
-use Rattle.infer_ctx.specs.Closings.{Closes, found_under, expected_under}
-use Rattle.infer_coerce.specs.declared.coerce_many.CoerceMany.{CoerceMany}
-use Rattle.infer_coerce.specs.Common.{MergesInto, common_under, IsFineCommon}
-use Rattle.infer_coerce.specs.declared.coerce_many.CoerceMany.TheVariants as common
+use Rattle.infer_branches.specs.Words.hir_raw.declared.raw.RawExpr.TheVariants as expr
+use Rattle.infer_branches.specs.Words.infer_coerce.declared.coerce_many.CoerceMany.TheVariants as common
 
 abbrev pub IsIfOf : RawBody → ExprId → ExprId → ExprId → Option ExprId → Type 0
 IsIfOf b e c first other = slice_get b.exprs e.0 ≡ Some (expr.If c first other)

@@ -2,29 +2,10 @@
 use Rattle.std.proofs.Common.{ℕ, ◌+◌, ◌<◌, ◌≤◌, ◌≡◌, inl, List, length, get_or, map, take, refl, sym, ap, subst, ◌∙◌, arith, Some, slice_get, option_map}
 use Rattle.std.proofs.lemmas.List.{length-map, take_all}
 use Rattle.std.proofs.lemmas.Option.{slice_get_read, slice_get-map}
-use Rattle.hir_types.specs.declared.ids.ExprId.{ExprId}
+use Rattle.infer_calls.specs.Words.{ExprId, Ty, Assignment, folded, inner, argument, Schedule, Given, IsAtOrMismatch, Demand, InferenceResult, AllAt, InferenceContext, Closes, found_under, Found, Before, CoerceDone, OnlyBinds, Extends, Nothing}
 use Rattle.hir_types.specs.declared.ids.ExprOrPatId.TheVariants as node
-use Rattle.hir_types.specs.declared.ty.Ty.{Ty}
-use Rattle.hir_types.specs.Subst.{Assignment, folded}
-use Rattle.hir_raw.specs.Order.{inner, argument}
-use Rattle.hir_raw.specs.declared.schedule.Schedule.{Schedule}
-use Rattle.infer_result.specs.Places.{Given, IsAtOrMismatch}
-use Rattle.infer_result.specs.Demands.{Demand}
-use Rattle.infer_result.specs.declared.result.InferenceResult.{InferenceResult}
-use Rattle.infer_result.specs.Kinds.Tuple.{AllAt}
-use Rattle.infer_ctx.specs.declared.context.InferenceContext.{InferenceContext}
-use Rattle.infer_ctx.specs.Closings.{Closes, found_under}
-use Rattle.infer_ctx.specs.Found.{Found}
-use Rattle.infer_ctx.specs.Steps.{Before, CoerceDone, OnlyBinds}
-use Rattle.infer_ctx.specs.Walks.{Extends, Nothing}
-use Rattle.infer_ctx.proofs.AtEach.{follows_itself, closes_before}
-use Rattle.infer_ctx.proofs.Category.{walks_refl}
-use Rattle.infer_ctx.proofs.FineTypes.{fine_grown}
-use Rattle.infer_ctx.proofs.InParts.{AtPart, binds_on, comes_to_part, past_coerced_part, all_past}
-use Rattle.infer_ctx.proofs.Keeps.{all_kept, extends_trans}
-use Rattle.infer_ctx.proofs.Lists.{take_next}
-use Rattle.infer_ctx.proofs.Parts.{all_push}
-use Rattle.infer_calls.specs.Calls.{BeforeInputs, ArgsDone}
+use Rattle.infer_calls.proofs.Words.{follows_itself, closes_before, walks_refl, fine_grown, AtPart, binds_on, comes_to_part, past_coerced_part, all_past, all_kept, extends_trans, take_next, all_push}
+use Rattle.infer_calls.specs.Own.{BeforeInputs, ArgsDone}
 use Rattle.infer_calls.proofs.CallWalk.{found_same, input_fine, asks_inputs}
 
 -- the first i of them are at the first inputs

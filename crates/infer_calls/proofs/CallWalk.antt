@@ -2,41 +2,15 @@
 use Rattle.std.proofs.Common.{List, map, None, ◌≡◌, ◌∷◌, sym, ap, subst, ◌∙◌, ℕ, [], refl, arith, length, Some, slice_get, Result, Ok, Err}
 use Rattle.std.specs.Prelude.{IfOk}
 use Rattle.std.proofs.lemmas.List.{length-map}
-use Rattle.hir_types.specs.declared.ids.ExprId.{ExprId}
+use Rattle.infer_calls.specs.Words.{ExprId, Ty, Assignment, folded, Schedule, IsCarriedType, inner, argument, callee, expr_part, exprs_from, at_args, Grew, Given, InferenceContext, Closes, found_under, Before, Within, KindDone, Follows, OnlyBinds, OwnDone, IsSigOf, IsSigOfItem, CallableSig, IsFine, AllFine, KindWalked, Extends, IsWalked, Nothing, Owed, PaidBy, types_scope}
 use Rattle.hir_types.specs.declared.ids.ExprOrPatId.TheVariants as node
-use Rattle.hir_types.specs.declared.ty.Ty.{Ty}
-use Rattle.hir_types.specs.Subst.{Assignment, folded}
-use Rattle.hir_raw.specs.declared.raw.RawExpr.TheVariants as expr
-use Rattle.hir_raw.specs.declared.schedule.Schedule.{Schedule}
-use Rattle.hir_facts.specs.CarriedTypes.{IsCarriedType}
-use Rattle.hir_raw.specs.Order.{inner, argument, callee, expr_part, exprs_from}
-use Rattle.hir_raw.specs.Signatures.{at_args}
-use Rattle.infer_table.specs.Table.{Grew}
-use Rattle.infer_table.proofs.UndoLaws.{grew_itself}
-use Rattle.infer_result.specs.Places.{Given}
-use Rattle.infer_result.specs.declared.diagnostics.InferenceDiagnostic.TheVariants as diagnostic
-use Rattle.infer_ctx.specs.declared.context.InferenceContext.{InferenceContext}
-use Rattle.infer_ctx.specs.Closings.{Closes, found_under}
-use Rattle.infer_ctx.specs.Steps.{Before, Within, KindDone, Follows, OnlyBinds, OwnDone}
-use Rattle.infer_ctx.specs.Callables.{IsSigOf, IsSigOfItem}
-use Rattle.infer_ctx.specs.declared.given.CallableSig.{CallableSig}
-use Rattle.infer_ctx.specs.Fine.{IsFine, AllFine}
-use Rattle.infer_ctx.specs.Under.{KindWalked}
-use Rattle.infer_ctx.specs.Walks.{Extends, IsWalked, Nothing, Owed, PaidBy}
-use Rattle.infer_ctx.specs.Context as context
-use Rattle.infer_ctx.specs.Found as found
-use Rattle.infer_ctx.proofs.Asked.{told_beside}
-use Rattle.infer_ctx.proofs.AtEach.{closes_before, walking_after, follows_itself, follows_twice}
-use Rattle.infer_ctx.proofs.Category.{walks_paid, walks_trans}
-use Rattle.infer_ctx.proofs.FineTypes.{fine_grown, every_at, every_from}
-use Rattle.infer_ctx.proofs.InParts.{WalksParts, begins_parts, comes_to, goes_past}
-use Rattle.infer_ctx.proofs.Instances.{known_instance, fine_instance, instances_under, fine_instances}
-use Rattle.infer_ctx.proofs.OverTypes.{fine_closed}
-use Rattle.infer_ctx.proofs.UnderClosings.{diagnostic_under, of_body_diagnostic, same_found, sound_diagnostic}
-use Rattle.infer_ctx.proofs.Keeps.{extends_trans}
-use Rattle.infer_calls.specs.Calls.{CalleeDone, BeforeArgs, ComesToArgs, IsCallOf, BeforeInputs, ArgsDone, ArgsWalked, inputs_at, BeforeLoose, LooseDone, ComesToLoose, LooseWalked, AsksInputs}
+use Rattle.infer_calls.specs.Words.hir_raw.declared.raw.RawExpr.TheVariants as expr
+use Rattle.infer_calls.proofs.Words.{grew_itself, told_beside, closes_before, walking_after, follows_itself, follows_twice, walks_paid, walks_trans, fine_grown, every_at, every_from, WalksParts, begins_parts, comes_to, goes_past, known_instance, fine_instance, instances_under, fine_instances, fine_closed, diagnostic_under, of_body_diagnostic, same_found, sound_diagnostic, extends_trans}
+use Rattle.infer_calls.specs.Words.infer_result.declared.diagnostics.InferenceDiagnostic.TheVariants as diagnostic
+use Rattle.infer_calls.specs.Words.infer_ctx.Context as context
+use Rattle.infer_calls.specs.Words.infer_ctx.Found as found
+use Rattle.infer_calls.specs.Own.{CalleeDone, BeforeArgs, ComesToArgs, IsCallOf, BeforeInputs, ArgsDone, ArgsWalked, inputs_at, BeforeLoose, LooseDone, ComesToLoose, LooseWalked, AsksInputs}
 use Rattle.infer_calls.proofs.Calls.{call_done, told_loose, others_done, input_demand, complained_extends}
-use Rattle.hir_raw.specs.Scope.{types_scope}
 
 -- ---- what is called
 module _ (g : Given) (s : Schedule) (n called : ExprId) (args : List ExprId) (c : InferenceContext) (h : Within g s n None c)

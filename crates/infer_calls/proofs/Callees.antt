@@ -1,49 +1,14 @@
 -- What is called, as far as its type is known: an item, or no function.
 use Rattle.std.proofs.Common.{◌≡◌, sym, ap, ◌∙◌, List, Some, true, refl, length, ◌⊎◌, inl, inr, false, ℕ, Option, None, option_map, subst, [], slice_get, map}
 use Rattle.std.proofs.lemmas.Bool.{eqb-true}
-use Rattle.hir_types.specs.declared.ids.CallableDefId.{CallableDefId}
-use Rattle.hir_types.specs.declared.ty.GenericArg.{GenericArg}
-use Rattle.hir_types.specs.declared.ty.Ty.{Ty-F, out-Ty, out-roll-Ty, Ty}
-use Rattle.hir_types.specs.declared.ty.AliasBound.{AliasBound}
-use Rattle.hir_types.specs.declared.ty.TraitRef.{TraitRef}
-use Rattle.hir_types.specs.declared.ids.ExprId.{ExprId}
-use Rattle.hir_types.specs.Subst.{Assignment, folded}
-use Rattle.hir_types.specs.Terms.{terms_of}
+use Rattle.infer_calls.specs.Words.{CallableDefId, GenericArg, Ty-F, out-Ty, out-roll-Ty, Ty, AliasBound, TraitRef, ExprId, Assignment, folded, terms_of, Scope, has_params, names_item, types_scope, type_args, Signature, signature_of, at_args, RawPath, RawExpr, Schedule, bindings, resolved_type, AllOf, apply_resolved_term, resolution, other, outermost_step, HeadOf, of_function, of_ctor, Outermost, HasHead, callable_step, is_callable, IsPathToItem, CallsNonGeneric, Given, HasTy, item_params, HasFineHeads, IsFine, IsCarriedIn, AllFine, ItemsAreCallable, IsCallableItem, InferenceContext, Closes, found_under, OwnDone, Tells, IsReady, IsItem, Nothing, Owed}
 use Rattle.hir_types.specs.declared.head.Head.TheVariants as head
 use Rattle.hir_types.specs.declared.ty.Ty.TheVariants as ty
 use Rattle.hir_types.specs.declared.ids.CallableDefId.TheVariants as callable
-use Rattle.hir_raw.specs.Scope.{Scope, has_params, names_item, types_scope}
-use Rattle.hir_raw.specs.Signatures.{type_args, Signature, signature_of, at_args}
-use Rattle.hir_raw.specs.declared.raw.RawPath.{RawPath}
-use Rattle.hir_raw.specs.declared.raw.RawExpr.{RawExpr}
-use Rattle.hir_raw.specs.declared.schedule.Schedule.{Schedule}
-use Rattle.hir_raw.specs.declared.raw.RawPath.TheVariants as path
-use Rattle.hir_raw.specs.declared.raw.RawExpr.TheVariants as expr
-use Rattle.infer_table.specs.Table.{bindings, resolved_type}
-use Rattle.infer_table.specs.Bindings.{AllOf}
-use Rattle.infer_table.specs.Preserved.{apply_resolved_term}
-use Rattle.infer_table.specs.Resolution.{resolution}
-use Rattle.infer_result.specs.Heads.{other, outermost_step, HeadOf, of_function, of_ctor, Outermost, HasHead}
-use Rattle.infer_result.specs.Kinds.Call.{callable_step, is_callable, IsPathToItem, CallsNonGeneric}
-use Rattle.infer_result.specs.Places.{Given}
-use Rattle.infer_result.specs.Table.{HasTy}
-use Rattle.infer_result.proofs.Derived.{ctor_type_of_tuple}
-use Rattle.infer_coerce.proofs.Resolved.{resolved_fine}
-use Rattle.infer_ctx.specs.Fine.{item_params, HasFineHeads, IsFine, IsCarriedIn, AllFine}
-use Rattle.infer_ctx.specs.Callables.{ItemsAreCallable, IsCallableItem}
-use Rattle.infer_ctx.specs.declared.context.InferenceContext.{InferenceContext}
-use Rattle.infer_ctx.specs.Closings.{Closes, found_under}
-use Rattle.infer_ctx.specs.Steps.{OwnDone}
-use Rattle.infer_ctx.specs.Tells.{Tells}
-use Rattle.infer_ctx.specs.Under.{IsReady, IsItem}
-use Rattle.infer_ctx.specs.Walks.{Nothing, Owed}
-use Rattle.infer_ctx.proofs.Category.{walks_paid}
-use Rattle.infer_ctx.proofs.OverTypes.{over_fine, carried_closed, fn_def_closed, same_closed}
-use Rattle.infer_ctx.proofs.Items.{variant_with}
-use Rattle.infer_ctx.proofs.FineTypes.{every_at, fine_fn_args}
-use Rattle.infer_ctx.proofs.Tellings.{call_tells, other_call_tells}
-use Rattle.infer_ctx.proofs.TellingsKept.{head_kept, type_kept}
-use Rattle.infer_calls.specs.Calls.{CalleeDone, IsCallOf}
+use Rattle.infer_calls.specs.Words.hir_raw.declared.raw.RawPath.TheVariants as path
+use Rattle.infer_calls.specs.Words.hir_raw.declared.raw.RawExpr.TheVariants as expr
+use Rattle.infer_calls.proofs.Words.{ctor_type_of_tuple, resolved_fine, walks_paid, over_fine, carried_closed, fn_def_closed, same_closed, variant_with, every_at, fine_fn_args, call_tells, other_call_tells, head_kept, type_kept}
+use Rattle.infer_calls.specs.Own.{CalleeDone, IsCallOf}
 
 -- ---- items, and other types
 item_head_is : (id : CallableDefId) (xs : List GenericArg) → outermost_step (out-Ty (ty.FnDef id xs)) ≡ Some (other (head.FnDef id))

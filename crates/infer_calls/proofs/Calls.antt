@@ -1,43 +1,15 @@
 -- What a call shows: the item that it calls, and its arguments one after another.
 use Rattle.std.proofs.Common.{List, None, ◌≡◌, ◌∷◌, sym, subst, Some, inl, inr, ℕ, suc, ◌+◌, [], ap, ◌∙◌, arith, slice_get, length, ◌<◌, ◌⊎◌, refl}
 use Rattle.std.proofs.lemmas.List.{length-map}
-use Rattle.hir_types.specs.declared.ids.ExprId.{ExprId}
-use Rattle.hir_types.specs.declared.ids.CallableDefId.{CallableDefId}
-use Rattle.hir_types.specs.declared.ty.Ty.{Ty}
-use Rattle.hir_types.specs.Instances.{fn_def_tells}
-use Rattle.hir_types.specs.declared.ids.ExprOrPatId.{ExprOrPatId}
-use Rattle.hir_types.specs.Subst.{folded}
+use Rattle.infer_calls.specs.Words.{ExprId, CallableDefId, Ty, fn_def_tells, ExprOrPatId, folded, Schedule, type_args, Signature, signature_of, at_args, inner, argument, expr_part, exprs_from, parts_of_expr, part_at, IsCarriedType, Given, Demand, IsCallee, ArgsRule, InferenceResult, InferenceDiagnostic, at_or_mismatch, HasTy, HasDiagnostic, WasSeen, At, IsTrueDiagnostic, Seen, IsTrueSeen, has_unknown, Found, with_diagnostic, Nothing, PaidBy, Extends, Walks, IsWalked, IsSeenAs, KindWalked}
 use Rattle.hir_types.specs.declared.ty.Ty.TheVariants as ty
 use Rattle.hir_types.specs.declared.ids.ExprOrPatId.TheVariants as node
-use Rattle.hir_raw.specs.declared.schedule.Schedule.{Schedule}
-use Rattle.hir_raw.specs.Signatures.{type_args, Signature, signature_of, at_args}
-use Rattle.hir_raw.specs.Order.{inner, argument, expr_part, exprs_from, parts_of_expr, part_at}
-use Rattle.hir_facts.specs.CarriedTypes.{IsCarriedType}
-use Rattle.hir_raw.specs.declared.raw.RawExpr.TheVariants as expr
-use Rattle.infer_result.specs.Places.{Given}
-use Rattle.infer_result.specs.Demands.{Demand}
-use Rattle.infer_result.specs.Kinds.Call.{IsCallee, ArgsRule}
-use Rattle.infer_result.specs.declared.result.InferenceResult.{InferenceResult}
-use Rattle.infer_result.specs.declared.diagnostics.InferenceDiagnostic.{InferenceDiagnostic}
-use Rattle.infer_result.specs.Placing.{at_or_mismatch}
-use Rattle.infer_result.specs.Table.{HasTy, HasDiagnostic, WasSeen, At}
-use Rattle.infer_result.specs.Truth.Diagnostics.{IsTrueDiagnostic}
-use Rattle.infer_result.specs.declared.result.Seen.{Seen}
-use Rattle.infer_result.specs.Truth.Seen.{IsTrueSeen}
-use Rattle.infer_result.specs.Unknown.{has_unknown, IsKnown}
-use Rattle.infer_result.specs.declared.diagnostics.InferenceDiagnostic.TheVariants as diagnostic
-use Rattle.infer_ctx.specs.Found.{Found, with_diagnostic, with_seen}
-use Rattle.infer_ctx.specs.Walks.{Nothing, PaidBy, Extends, Walks, IsWalked, IsSeenAs}
-use Rattle.infer_ctx.specs.Under.{KindWalked}
-use Rattle.infer_ctx.proofs.Category.{walks_paid, walks_trans}
-use Rattle.infer_ctx.proofs.InParts.{expr_at}
-use Rattle.infer_ctx.proofs.Parts.{expr_id}
-use Rattle.infer_ctx.proofs.Lists.{noted-keeps, noted-cases, noted-some, length-noted, same_or_not, slice_get-append_left, slice_get-push}
-use Rattle.infer_ctx.proofs.Keeps.{args_kept, callee_kept, diagnostic_kept, seen_as_kept, true_seen_kept}
-use Rattle.infer_ctx.proofs.Leaves.{rule_of}
-use Rattle.infer_ctx.proofs.UnderClosings.{push_cases}
-use Rattle.infer_ctx.proofs.Said.{length-said_of, said_of-cases, said_of-keeps, said_of-own}
-use Rattle.infer_calls.specs.Calls.{ComesToArgs, ComesToUncallable, IsCalling, inputs_at, ArgsWalked, ComesToLoose, LooseWalked}
+use Rattle.infer_calls.specs.Words.hir_raw.declared.raw.RawExpr.TheVariants as expr
+use Rattle.infer_calls.specs.Words.infer_result.Unknown.{IsKnown}
+use Rattle.infer_calls.specs.Words.infer_result.declared.diagnostics.InferenceDiagnostic.TheVariants as diagnostic
+use Rattle.infer_calls.specs.Words.infer_ctx.Found.{with_seen}
+use Rattle.infer_calls.proofs.Words.{walks_paid, walks_trans, expr_at, expr_id, noted-keeps, noted-cases, noted-some, length-noted, same_or_not, slice_get-append_left, slice_get-push, args_kept, callee_kept, diagnostic_kept, seen_as_kept, true_seen_kept, rule_of, push_cases, length-said_of, said_of-cases, said_of-keeps, said_of-own}
+use Rattle.infer_calls.specs.Own.{ComesToArgs, ComesToUncallable, IsCalling, inputs_at, ArgsWalked, ComesToLoose, LooseWalked}
 
 -- ---- what the call asks of its arguments
 module _ (g : Given) (n called : ExprId) (args : List ExprId) (id : CallableDefId) (σ : Signature) (ts : List Ty) (c : Found) (h : IsCalling g n called args id σ ts c) where

@@ -1,27 +1,10 @@
 -- What is expected of the arguments of a call: tried, undone, and made equal with what the call takes.
 use Rattle.std.proofs.Common.{ℕ, ◌≡◌, sym, ap, subst, ◌∙◌, List, map, slice_get, Option, Some, None, Result, Ok, Err}
-use Rattle.hir_types.specs.declared.ty.Ty.{Ty}
-use Rattle.hir_types.specs.Terms.{term}
+use Rattle.infer_calls.specs.Words.{Ty, term, replaced, AreOf, State, resolved_type, AreUnified, AreRefused, CanBeEqual, GoesBack, IsResolvedOr, NoUnifier, IsOfBody, Given, with_table, InferenceContext, IsSound, AllFine, IsFine, IsFineExpectation, SameOrDiffer, UnifiesAll, IsLawfulState}
 use Rattle.std.specs.Prelude.{IfOk}
 use Rattle.std.specs.declared.alloc.AllocError.{AllocError}
-use Rattle.hir_types.specs.Subst.{replaced}
-use Rattle.infer_table.specs.Solutions.{AreOf}
-use Rattle.infer_table.specs.Table.{State, resolved_type, AreUnified, AreRefused, CanBeEqual}
-use Rattle.infer_table.specs.Undo.{GoesBack, IsResolvedOr}
-use Rattle.infer_table.specs.declared.unify.NoUnifier.{NoUnifier}
-use Rattle.infer_result.specs.Closed.{IsOfBody}
-use Rattle.infer_result.specs.Places.{Given}
-use Rattle.infer_ctx.specs.Context.{with_table}
-use Rattle.infer_ctx.specs.declared.context.InferenceContext.{InferenceContext}
-use Rattle.infer_ctx.specs.Closings.{IsSound}
-use Rattle.infer_ctx.specs.Fine.{AllFine, IsFine, IsFineExpectation}
-use Rattle.infer_ctx.proofs.FineTypes.{all_fine_grown, every_same}
-use Rattle.infer_coerce.specs.MadeEqual.{SameOrDiffer, UnifiesAll}
-use Rattle.infer_table.specs.Lawful.{IsLawfulState}
-use Rattle.infer_coerce.proofs.Resolved.{all_resolved_fine}
-use Rattle.infer_coerce.proofs.Undone.{binds_back}
-use Rattle.infer_coerce.proofs.Unified.{binds_twice, unified}
-use Rattle.infer_calls.specs.Inputs.{AreFineInputs, ExpectsInputs, FindsInputs, IsTried}
+use Rattle.infer_calls.proofs.Words.{all_fine_grown, every_same, all_resolved_fine, binds_back, binds_twice, unified}
+use Rattle.infer_calls.specs.Own.{AreFineInputs, ExpectsInputs, FindsInputs, IsTried}
 
 -- ---- what was tried
 

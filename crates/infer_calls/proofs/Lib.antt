@@ -5,3 +5,4 @@ pub mod Calls
 pub mod Loose
 pub mod Uncallable
 pub mod ExpectedInputs
+pub mod Words

@@ -1,32 +1,10 @@
 -- Arguments that are typed, each with its one of some types expected of it, as far as there is one.
 use Rattle.std.proofs.Common.{ℕ, ◌+◌, ◌<◌, ◌≤◌, ◌≡◌, arith, inl, inr, refl, sym, ap, subst, ◌∙◌, List, length, get_or, map, Option, None, Some, option_map, slice_get}
 use Rattle.std.proofs.lemmas.Option.{slice_get_read, slice_get-map, slice_get_within}
-use Rattle.hir_types.specs.declared.ids.ExprId.{ExprId}
+use Rattle.infer_calls.specs.Words.{ExprId, Ty, Assignment, folded, inner, argument, Schedule, Given, Demand, HasTy, TypeMismatch, InferenceContext, Closes, expected_under, found_under, IsFine, IsFineExpectation, Found, Before, Follows, OwnDone, OnlyBinds, OwnWalked, Nothing, Owed, SameOrDiffer}
 use Rattle.hir_types.specs.declared.ids.ExprOrPatId.TheVariants as node
-use Rattle.hir_types.specs.declared.ty.Ty.{Ty}
-use Rattle.hir_types.specs.Subst.{Assignment, folded}
-use Rattle.hir_raw.specs.Order.{inner, argument}
-use Rattle.hir_raw.specs.declared.schedule.Schedule.{Schedule}
-use Rattle.infer_result.specs.Places.{Given}
-use Rattle.infer_result.specs.Demands.{Demand}
-use Rattle.infer_result.specs.Table.{HasTy}
-use Rattle.infer_result.specs.declared.result.TypeMismatch.{TypeMismatch}
-use Rattle.infer_ctx.specs.declared.context.InferenceContext.{InferenceContext}
-use Rattle.infer_ctx.specs.Closings.{Closes, expected_under, found_under}
-use Rattle.infer_ctx.specs.Fine.{IsFine, IsFineExpectation}
-use Rattle.infer_ctx.specs.Found.{Found}
-use Rattle.infer_ctx.specs.Steps.{Before, Follows, OwnDone, OnlyBinds}
-use Rattle.infer_ctx.specs.Under.{OwnWalked}
-use Rattle.infer_ctx.specs.Walks.{Nothing, Owed}
-use Rattle.infer_ctx.proofs.AtEach.{closes_before, follows_itself, follows_twice}
-use Rattle.infer_ctx.proofs.Category.{walks_refl}
-use Rattle.infer_ctx.proofs.UnderClosings.{same_found}
-use Rattle.infer_ctx.proofs.FineTypes.{fine_grown}
-use Rattle.infer_ctx.proofs.InParts.{AtPart, comes_to_part, past_own_part, binds_on, all_past}
-use Rattle.infer_ctx.proofs.Keeps.{extends_trans}
-use Rattle.infer_coerce.specs.MadeEqual.{SameOrDiffer}
-use Rattle.infer_coerce.proofs.Settled.{earlier_or_here, settled_later}
-use Rattle.infer_calls.specs.Calls.{BeforeLoose, IsMet, LooseDone}
+use Rattle.infer_calls.proofs.Words.{closes_before, follows_itself, follows_twice, walks_refl, same_found, fine_grown, AtPart, comes_to_part, past_own_part, binds_on, all_past, extends_trans, earlier_or_here, settled_later}
+use Rattle.infer_calls.specs.Own.{BeforeLoose, IsMet, LooseDone}
 
 -- the first i of them are typed
 pub record AtLoose (g : Given) (s : Schedule) (n : ExprId) (args : List ExprId) (ss : List Ty) (i : ℕ) (mid c : InferenceContext) : Type 0 where

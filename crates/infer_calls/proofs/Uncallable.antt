@@ -1,40 +1,13 @@
 -- Calls of what is no function.
 use Rattle.std.proofs.Common.{None, ◌≡◌, sym, subst, List, refl, arith, []}
-use Rattle.hir_types.specs.declared.ids.ExprId.{ExprId}
-use Rattle.hir_types.specs.declared.ty.Ty.{Ty}
-use Rattle.hir_types.specs.Subst.{folded, Assignment}
-use Rattle.hir_types.specs.declared.ids.CallableDefId.{CallableDefId}
-use Rattle.hir_types.specs.declared.ty.GenericArg.{GenericArg}
+use Rattle.infer_calls.specs.Words.{ExprId, Ty, folded, Assignment, CallableDefId, GenericArg, Schedule, Grew, bindings, resolved_type, hole_count, AllOf, stays_with, Given, HasTy, InferenceResult, Seen, IsTrueSeen, InferenceContext, found_under, Closes, IsFine, OwnDone, KindDone, Within, Follows, KindWalked, Extends, Nothing}
 use Rattle.hir_types.specs.declared.ty.Ty.TheVariants as ty
 use Rattle.hir_types.specs.declared.head.HoleKind.TheVariants as kind
 use Rattle.hir_types.specs.declared.ids.ExprOrPatId.TheVariants as node
-use Rattle.hir_raw.specs.declared.schedule.Schedule.{Schedule}
-use Rattle.infer_table.proofs.HoleLaws.{grew_by_hole}
-use Rattle.infer_table.specs.Table.{Grew, bindings, resolved_type, hole_count}
-use Rattle.infer_table.specs.Bindings.{AllOf}
-use Rattle.infer_ctx.specs.Below.{stays_with}
-use Rattle.infer_result.specs.Places.{Given}
-use Rattle.infer_result.specs.Table.{HasTy}
-use Rattle.infer_result.specs.declared.result.InferenceResult.{InferenceResult}
-use Rattle.infer_result.specs.declared.result.Seen.{Seen}
-use Rattle.infer_result.specs.Truth.Seen.{IsTrueSeen}
-use Rattle.infer_ctx.specs.declared.context.InferenceContext.{InferenceContext}
-use Rattle.infer_ctx.specs.Closings.{found_under, Closes}
-use Rattle.infer_ctx.specs.Fine.{IsFine}
-use Rattle.infer_ctx.specs.Steps.{OwnDone, KindDone, Within, Follows}
-use Rattle.infer_ctx.specs.Under.{KindWalked}
-use Rattle.infer_ctx.specs.Walks.{Extends, Nothing}
-use Rattle.infer_ctx.proofs.InParts.{goes_past_own}
-use Rattle.infer_ctx.specs.Context as context
-use Rattle.infer_ctx.specs.Found as found
-use Rattle.infer_ctx.proofs.Asked.{told_same, told_beside}
-use Rattle.infer_ctx.proofs.AtEach.{follows_twice, closes_before, walking_after, follows_itself}
-use Rattle.infer_ctx.proofs.UnderClosings.{same_found, closes_earlier, seen_under, of_body_seen, sound_seen}
-use Rattle.infer_ctx.proofs.FineTypes.{fine_hole}
-use Rattle.infer_ctx.proofs.OverTypes.{fine_closed}
-use Rattle.infer_ctx.proofs.Tellings.{other_call_tells}
-use Rattle.infer_coerce.proofs.Holes.{holed, holed_sound}
-use Rattle.infer_calls.specs.Calls.{BeforeUncallable, IsCallOf, BeforeLoose, LooseDone, ComesToLoose, LooseWalked}
+use Rattle.infer_calls.proofs.Words.{grew_by_hole, goes_past_own, told_same, told_beside, follows_twice, closes_before, walking_after, follows_itself, same_found, closes_earlier, seen_under, of_body_seen, sound_seen, fine_hole, fine_closed, other_call_tells, holed, holed_sound}
+use Rattle.infer_calls.specs.Words.infer_ctx.Context as context
+use Rattle.infer_calls.specs.Words.infer_ctx.Found as found
+use Rattle.infer_calls.specs.Own.{BeforeUncallable, IsCallOf, BeforeLoose, LooseDone, ComesToLoose, LooseWalked}
 use Rattle.infer_calls.proofs.Calls.{saw_loose, uncallable_done}
 use Rattle.infer_calls.proofs.CallWalk.{call_parts}
 use Rattle.infer_calls.proofs.Callees.{known_fine, known_same, known_tells, no_path, not_callable}

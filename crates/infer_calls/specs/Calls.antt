@@ -1,39 +1,9 @@
 -- What the walk over a call is given, and what it does.
 use Rattle.std.specs.Prelude.{◌≡◌, List, slice_get, Some, map, ◌<◌, length, ◌⊎◌, ℕ, None}
-use Rattle.hir_types.specs.declared.goal.Goal.{Goal}
-use Rattle.hir_types.specs.declared.ids.ExprId.{ExprId}
-use Rattle.hir_types.specs.declared.ids.CallableDefId.{CallableDefId}
-use Rattle.hir_types.specs.declared.ty.Ty.{Ty}
-use Rattle.hir_types.specs.Subst.{Assignment, folded}
-use Rattle.hir_types.specs.declared.ty.GenericArg.{GenericArg}
+use Rattle.infer_calls.specs.Words.{Goal, ExprId, CallableDefId, Ty, Assignment, folded, GenericArg, RawBody, Schedule, type_args, Signature, at_args, signature_of, inner, after, exprs_from, argument, resolved_type, bindings, AllOf, asked_goal, HasTy, WasSeen, Demand, callee_needs, Given, InferenceResult, ArgsRule, IsPathToItem, at_or_mismatch, Found, Walks, Nothing, expr_end, IsWalked, Extends, LieAhead, IsReady, IsItem, InferenceContext, IsFine, Tells, Closes, found_under, Follows, OwnDone, Within, IsWalking, Does, SameOrDiffer, SelectsAndReads, SelectsInWalk}
 use Rattle.hir_types.specs.declared.ty.Ty.TheVariants as ty
 use Rattle.hir_types.specs.declared.ids.ExprOrPatId.TheVariants as node
-use Rattle.hir_raw.specs.declared.raw.RawBody.{RawBody}
-use Rattle.hir_raw.specs.declared.schedule.Schedule.{Schedule}
-use Rattle.hir_raw.specs.Signatures.{type_args, Signature, at_args, signature_of}
-use Rattle.hir_raw.specs.Order.{inner, after, exprs_from, argument}
-use Rattle.hir_raw.specs.declared.raw.RawExpr.TheVariants as expr
-use Rattle.infer_table.specs.Table.{resolved_type, bindings}
-use Rattle.infer_table.specs.Bindings.{AllOf}
-use Rattle.infer_result.specs.Below.{asked_goal}
-use Rattle.infer_result.specs.Table.{HasTy, WasSeen}
-use Rattle.infer_result.specs.Demands.{Demand}
-use Rattle.infer_result.specs.Needs.{callee_needs}
-use Rattle.infer_result.specs.Places.{Given}
-use Rattle.infer_result.specs.declared.result.InferenceResult.{InferenceResult}
-use Rattle.infer_result.specs.Kinds.Call.{ArgsRule, IsPathToItem}
-use Rattle.infer_result.specs.Placing.{at_or_mismatch}
-use Rattle.infer_ctx.specs.Found.{Found}
-use Rattle.infer_ctx.specs.Walks.{Walks, Nothing, expr_end, IsWalked, Extends}
-use Rattle.infer_ctx.specs.Under.{LieAhead, IsReady, IsItem}
-use Rattle.infer_ctx.specs.declared.context.InferenceContext.{InferenceContext}
-use Rattle.infer_ctx.specs.Fine.{IsFine}
-use Rattle.infer_ctx.specs.Tells.{Tells}
-use Rattle.infer_ctx.specs.Closings.{Closes, found_under}
-use Rattle.infer_ctx.specs.Steps.{Follows, OwnDone, Within, IsWalking, Does}
-use Rattle.infer_coerce.specs.MadeEqual.{SameOrDiffer}
-use Rattle.infer_obligations.specs.Reading.{SelectsAndReads}
-use Rattle.infer_obligations.specs.Selection.{SelectsInWalk}
+use Rattle.infer_calls.specs.Words.hir_raw.declared.raw.RawExpr.TheVariants as expr
 
 abbrev pub IsCallOf : RawBody → ExprId → ExprId → List ExprId → Type 0
 IsCallOf b e called args = slice_get b.exprs e.0 ≡ Some (expr.Call called args)

@@ -1,15 +1,7 @@
 -- What is expected of the arguments of a call, from what is expected of the call: upstream `infer/expr.rs`, the
 -- beginning of `check_call_arguments`.
 use Rattle.std.specs.Prelude.{ℕ, ◌≡◌, List, slice_get, map, Option, Some, None, Result, Ok, Err}
-use Rattle.hir_types.specs.declared.ty.Ty.{Ty}
-use Rattle.hir_raw.specs.Scope.{Scope}
-use Rattle.infer_table.specs.Lawful.{IsLawfulState}
-use Rattle.infer_table.specs.Table.{State, resolved_type, AreUnified, AreRefused, CanBeEqual}
-use Rattle.infer_result.specs.Places.{Given}
-use Rattle.infer_ctx.specs.declared.context.InferenceContext.{InferenceContext}
-use Rattle.infer_ctx.specs.Fine.{AllFine}
-use Rattle.infer_ctx.specs.Steps.{OnlyBinds}
-use Rattle.infer_coerce.specs.MadeEqual.{SameOrDiffer}
+use Rattle.infer_calls.specs.Words.{Ty, Scope, IsLawfulState, State, resolved_type, AreUnified, AreRefused, CanBeEqual, Given, InferenceContext, AllFine, OnlyBinds, SameOrDiffer}
 
 -- Once what the call gives is made equal with the type e, it takes the types ss.
 pub record TakesOnce (before : State) (inputs : List Ty) (output e : Ty) (ss : List Ty) : Type 0 where

@@ -1,20 +1,14 @@
 //! The types of calls.
 ghost use Rattle.std.specs.Prelude.{◌≡◌, [], IfOk, length};
-ghost use Rattle.infer_result.specs.Closed.{IsOfBody};
-ghost use Rattle.infer_ctx.specs.Closings.{IsSound};
-ghost use Rattle.infer_ctx.specs.Context.{given_of, scope_in, schedule_of, expected_type};
-ghost use Rattle.infer_ctx.specs.Fine.{IsFine, IsFineExpectation};
-ghost use Rattle.infer_calls.specs.Calls.{IsCallOf, CalleeTyped, BeforeCall, BeforeInputs, ArgsDone, BeforeUncallable, BeforeLoose, LooseDone, AreMet, EndsInSelection, EndsInReading};
-ghost use Rattle.infer_ctx.specs.Steps.{Before, Within, KindDone};
-ghost use Rattle.infer_coerce.specs.Recursion.{InfersFrom};
-ghost use Rattle.infer_coerce.specs.MadeEqual.{UnifiesOne};
+ghost use Rattle.infer_calls.specs.Words.{IsOfBody, IsSound, given_of, scope_in, schedule_of, expected_type, IsFine, IsFineExpectation, Before, Within, KindDone, InfersFrom, UnifiesOne};
+ghost use Rattle.infer_calls.specs.Own.{IsCallOf, CalleeTyped, BeforeCall, BeforeInputs, ArgsDone, BeforeUncallable, BeforeLoose, LooseDone, AreMet, EndsInSelection, EndsInReading};
 
 use crate::inputs::expect_inputs;
-use hir_facts::{ExprId, ExprOrPatId, Goal, Ty};
-use infer_coerce::{infer_expr_coerce, unify};
-use infer_ctx::{CallableSig, Expectation, GivenBody, InferenceContext};
+use infer_obligations::hir_facts::{ExprId, ExprOrPatId, Goal, Ty};
+use infer_obligations::infer_coerce::{infer_expr_coerce, unify};
+use infer_obligations::infer_ctx::{CallableSig, Expectation, GivenBody, InferenceContext};
+use infer_obligations::infer_result::{InferenceDiagnostic, Seen, callee_needs};
 use infer_obligations::{read_for, select_and_read, select_obligations_where_possible};
-use infer_result::{InferenceDiagnostic, Seen, callee_needs};
 use std::alloc::{AllocError, Global};
 
 /// The type of a call: `infer/expr.rs`, `infer_call`.

@@ -1,16 +1,12 @@
 //! What is expected of the arguments of a call, from what is expected of the call itself.
 ghost use Rattle.std.specs.Prelude.{IfOk};
-ghost use Rattle.infer_result.specs.Closed.{IsOfBody};
-ghost use Rattle.infer_table.specs.Table.{HolesAreOf, Grew};
-ghost use Rattle.infer_ctx.specs.Closings.{IsSound};
-ghost use Rattle.infer_ctx.specs.Context.{given_of, scope_in, expected_type};
-ghost use Rattle.infer_ctx.specs.Fine.{IsFine, AllFine, IsFineExpectation};
-ghost use Rattle.infer_calls.specs.Inputs.{FindsInputs, ExpectsInputs, IsTried};
+ghost use Rattle.infer_calls.specs.Words.{IsOfBody, HolesAreOf, Grew, IsSound, given_of, scope_in, expected_type, IsFine, AllFine, IsFineExpectation};
+ghost use Rattle.infer_calls.specs.Own.{FindsInputs, ExpectsInputs, IsTried};
 
-use hir_facts::{List, Ty};
-use infer_coerce::{copies, unify_all};
-use infer_ctx::{Expectation, GivenBody, InferenceContext};
-use infer_table::{InferenceTable, NoUnifier};
+use infer_obligations::hir_facts::{List, Ty};
+use infer_obligations::infer_coerce::{copies, unify_all};
+use infer_obligations::infer_ctx::{Expectation, GivenBody, InferenceContext};
+use infer_obligations::infer_table::{InferenceTable, NoUnifier};
 use std::alloc::{AllocError, Global};
 
 /// Makes what a call takes equal with what is expected of its arguments, where something is: the

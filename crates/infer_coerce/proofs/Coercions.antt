@@ -1,23 +1,8 @@
 -- An expression put at the type that is expected of it, with or without a mismatch.
 use Rattle.std.proofs.Common.{◌<◌, ◌≡◌, ◌⊎◌, inl, inr, Bool, true, false, length, sym, ap, subst, refl, ◌∙◌, Some, Option, None}
-use Rattle.hir_types.specs.declared.ids.ExprId.{ExprId}
-use Rattle.hir_types.specs.declared.ty.Ty.{Ty}
-use Rattle.hir_types.specs.Erasure.{erased}
-use Rattle.hir_raw.specs.declared.schedule.Schedule.{Schedule}
-use Rattle.hir_facts.specs.CarriedTypes.{IsCarriedType, same_carried}
-use Rattle.infer_result.specs.Table.{HasTy, mismatch}
-use Rattle.infer_result.specs.Places.{Given, IsAtOrMismatch}
-use Rattle.infer_result.specs.Demands.{Demand}
-use Rattle.infer_result.specs.Made.{IsMisfit}
-use Rattle.infer_result.specs.declared.result.InferenceResult.{InferenceResult}
-use Rattle.infer_result.specs.declared.result.TypeMismatch.{TypeMismatch}
-use Rattle.infer_ctx.specs.Found.{Found}
-use Rattle.infer_ctx.specs.Walks.{Walks, Debt, Owed, IsCarriedTable, Nothing}
-use Rattle.infer_ctx.specs.Under.{ComesTo, OwnWalked, CoerceWalked, IsPlaced}
-use Rattle.infer_ctx.specs.Context.{IsCarriedExpectation}
-use Rattle.infer_ctx.proofs.Noted.{noted_has, noted_walks}
-use Rattle.infer_ctx.proofs.Category.{walks_paid}
-use Rattle.infer_coerce.specs.Coercions.{IsCoercedIf}
+use Rattle.infer_coerce.specs.Words.{ExprId, Ty, erased, Schedule, IsCarriedType, same_carried, HasTy, mismatch, Given, IsAtOrMismatch, Demand, IsMisfit, InferenceResult, TypeMismatch, Found, Walks, Debt, Owed, IsCarriedTable, Nothing, ComesTo, OwnWalked, CoerceWalked, IsPlaced, IsCarriedExpectation}
+use Rattle.infer_coerce.proofs.Words.{noted_has, noted_walks, walks_paid}
+use Rattle.infer_coerce.specs.Own.{IsCoercedIf}
 
 -- an expression that has the type t is at u, or that it is not is noted
 module _ (g : Given) (s : Schedule) (P : Debt) (e : ExprId) (t u : Ty) (old mid : Found) (walks : Walks g s P old mid) (within : e.0 < length g.body.exprs) (has : HasTy mid.result e t) (carried : IsCarriedType u) where

@@ -1,21 +1,9 @@
 -- What is expected of an expression, what it has, and what is made of the two.
 use Rattle.std.proofs.Common.{Bool, true, false, Result, Ok, Err, ◌≡◌, Some, ◌∙◌, sym, ap, subst, Option, None}
-use Rattle.hir_types.specs.declared.ids.ExprId.{ExprId}
-use Rattle.hir_types.specs.declared.ty.Ty.{Ty}
-use Rattle.hir_types.specs.Subst.{folded}
-use Rattle.hir_raw.specs.declared.schedule.Schedule.{Schedule}
-use Rattle.infer_result.specs.Places.{Given}
-use Rattle.infer_result.specs.Table.{mismatch}
-use Rattle.infer_ctx.specs.declared.context.InferenceContext.{InferenceContext}
+use Rattle.infer_coerce.specs.Words.{ExprId, Ty, folded, Schedule, Given, mismatch, InferenceContext, Closes, found_under, expected_under, IsFine, IsFineExpectation, Follows, Before, OwnDone, CoerceDone}
 use Rattle.infer_ctx.specs.Context.{with_mismatch}
-use Rattle.infer_ctx.specs.Closings.{Closes, found_under, expected_under}
-use Rattle.infer_ctx.specs.Fine.{IsFine, IsFineExpectation}
-use Rattle.infer_ctx.specs.Steps.{Follows, Before, OwnDone, CoerceDone}
-use Rattle.infer_ctx.proofs.FineTypes.{fine_grown}
-use Rattle.infer_ctx.proofs.AtEach.{follows_twice, closes_before, before_under}
-use Rattle.infer_coerce.specs.Coercions.{IsCoercion, IsCoerced}
-use Rattle.infer_coerce.specs.declared.coercion.Coerced.{Coerced}
-use Rattle.infer_coerce.specs.declared.coercion.NotCoercible.{NotCoercible}
+use Rattle.infer_coerce.proofs.Words.{fine_grown, follows_twice, closes_before, before_under}
+use Rattle.infer_coerce.specs.Own.{IsCoercion, IsCoerced, Coerced, NotCoercible}
 use Rattle.infer_coerce.proofs.Coercions.{coerced_as}
 use Rattle.infer_coerce.proofs.Unified.{coercion_coerced, refused_coerced}
 

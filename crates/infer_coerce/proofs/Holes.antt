@@ -1,15 +1,7 @@
 -- New holes, and the types of literals.
 use Rattle.std.proofs.Common.{refl}
-use Rattle.hir_types.specs.declared.head.HoleKind.{HoleKind}
-use Rattle.hir_raw.specs.Scope.{Scope}
-use Rattle.infer_table.specs.Table.{with_new_hole}
-use Rattle.infer_table.proofs.HoleLaws.{grew_by_hole}
-use Rattle.infer_table.specs.Waiting.{waiting}
-use Rattle.infer_ctx.specs.Context.{with_table}
-use Rattle.infer_ctx.specs.declared.context.InferenceContext.{InferenceContext}
-use Rattle.infer_ctx.specs.Closings.{IsSound}
-use Rattle.infer_ctx.proofs.FineTypes.{table_fine_grown, seen_fine_grown, fine_asked_grown, fine_pairs_grown}
-use Rattle.infer_ctx.proofs.UnderClosings.{kept_later}
+use Rattle.infer_coerce.specs.Words.{HoleKind, Scope, with_new_hole, waiting, with_table, InferenceContext, IsSound}
+use Rattle.infer_coerce.proofs.Words.{grew_by_hole, table_fine_grown, seen_fine_grown, fine_asked_grown, fine_pairs_grown, kept_later}
 
 -- with one hole more
 abbrev pub holed : InferenceContext → HoleKind → InferenceContext

@@ -1,15 +1,8 @@
 -- Pairs that wait and become known, taken off one after the other.
 use Rattle.std.proofs.Common.{ℕ, ◌≡◌, ◌≤◌, ◌+◌, ◌++◌, ◌∷◌, [], sym, subst, ap, ◌∙◌, arith, true, false, List, length, length-append}
-use Rattle.infer_table.specs.Table.{State, AllUnknown}
-use Rattle.infer_table.specs.Waiting.{Waiting, waiting}
-use Rattle.infer_table.specs.declared.waiting.WaitingPair.{WaitingPair}
-use Rattle.infer_table.proofs.WaitingCounts.{waiting_count}
-use Rattle.infer_result.specs.Closed.{IsOfBody}
-use Rattle.infer_result.specs.Places.{Given}
-use Rattle.infer_ctx.specs.declared.context.InferenceContext.{InferenceContext}
-use Rattle.infer_ctx.specs.Closings.{IsSound}
-use Rattle.infer_ctx.specs.Steps.{OnlyBinds}
-use Rattle.infer_coerce.specs.MadeEqual.{UnifiesFirst, UnifiesKnown, UnifiesNext}
+use Rattle.infer_coerce.specs.Words.{State, AllUnknown, Waiting, waiting, WaitingPair, IsOfBody, Given, InferenceContext, IsSound, OnlyBinds}
+use Rattle.infer_coerce.proofs.Words.{waiting_count}
+use Rattle.infer_coerce.specs.Own.{UnifiesFirst, UnifiesKnown, UnifiesNext}
 use Rattle.infer_coerce.proofs.Unified.{binds_nothing, binds_twice}
 
 -- so many of the pairs were taken

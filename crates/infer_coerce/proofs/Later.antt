@@ -3,13 +3,8 @@ use Rattle.std.proofs.Common.{ℕ, ◌≤◌, arith}
 use Rattle.std.specs.Prelude.{Result}
 use Rattle.std.specs.Borrow.{MutBor}
 use Rattle.std.specs.declared.alloc.AllocError.{AllocError}
-use Rattle.hir_types.specs.declared.ids.ExprId.{ExprId}
-use Rattle.hir_types.specs.declared.ty.Ty.{Ty}
-use Rattle.hir_raw.specs.declared.schedule.Schedule.{Schedule}
-use Rattle.infer_result.specs.Places.{Given}
-use Rattle.infer_ctx.specs.declared.context.InferenceContext.{InferenceContext}
-use Rattle.infer_ctx.specs.declared.expectation.Expectation.{Expectation}
-use Rattle.infer_coerce.specs.Recursion.{InfersFrom}
+use Rattle.infer_coerce.specs.Words.{ExprId, Ty, Schedule, Given, InferenceContext, Expectation}
+use Rattle.infer_coerce.specs.Own.{InfersFrom}
 
 pub later : (g : Given) (s : Schedule) (k n : ℕ) (pre : MutBor InferenceContext → ExprId → Expectation → Type 0) (post : MutBor InferenceContext → ExprId → Expectation → Result Ty AllocError → MutBor InferenceContext → Type 0) → k ≤ n → InfersFrom g s k pre post → InfersFrom g s n pre post
 later g s k n pre post low h = record { may = λ c e x m b. h.may c e x (omega (arith, low, m)) b; does = h.does }

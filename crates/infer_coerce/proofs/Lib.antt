@@ -8,3 +8,4 @@ pub mod Resolved
 pub mod Settled
 pub mod Undone
 pub mod KnownPairs
+pub mod Words

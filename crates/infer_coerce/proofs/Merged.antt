@@ -1,21 +1,10 @@
 -- The common type of the alternatives of a node, and its type where they have none in common.
 use Rattle.std.proofs.Common.{refl, ◌≡◌, inl, inr, subst, ◌⊎◌, sym, ◌∙◌, Option, Some, None, true}
-use Rattle.hir_types.specs.declared.ids.ExprId.{ExprId}
-use Rattle.hir_types.specs.declared.ty.Ty.{Ty}
+use Rattle.infer_coerce.specs.Words.{ExprId, Ty, Scope, with_new_hole, hole_count, stays_with, Given, InferenceContext, IsSound, IsFine}
 use Rattle.hir_types.specs.declared.head.HoleKind.TheVariants as kind
 use Rattle.hir_types.specs.declared.ty.Ty.TheVariants as ty
-use Rattle.hir_raw.specs.Scope.{Scope}
-use Rattle.infer_table.specs.Table.{with_new_hole, hole_count}
-use Rattle.infer_table.proofs.HoleLaws.{grew_by_hole}
-use Rattle.infer_ctx.specs.Below.{stays_with}
-use Rattle.infer_result.specs.Places.{Given}
-use Rattle.infer_ctx.specs.declared.context.InferenceContext.{InferenceContext}
-use Rattle.infer_ctx.specs.Closings.{IsSound}
-use Rattle.infer_ctx.specs.Fine.{IsFine}
-use Rattle.infer_ctx.proofs.FineTypes.{fine_hole, fine_grown}
-use Rattle.infer_coerce.specs.Coercions.{IsCoerced}
-use Rattle.infer_coerce.specs.Common.{Completes, CompletesAs, Merges}
-use Rattle.infer_coerce.specs.declared.coerce_many.CoerceMany.{CoerceMany}
+use Rattle.infer_coerce.proofs.Words.{grew_by_hole, fine_hole, fine_grown}
+use Rattle.infer_coerce.specs.Own.{IsCoerced, Completes, CompletesAs, Merges, CoerceMany}
 use Rattle.infer_coerce.specs.declared.coerce_many.CoerceMany.TheVariants as common
 use Rattle.infer_coerce.proofs.Holes.{holed, holed_sound}
 

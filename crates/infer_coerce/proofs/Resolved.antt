@@ -1,15 +1,8 @@
 -- Types with what their holes are bound to.
 use Rattle.std.proofs.Common.{sym, subst, List, [], ◌∷◌, map}
-use Rattle.hir_types.specs.declared.ty.Ty.{Ty}
-use Rattle.hir_types.specs.Terms.{term}
-use Rattle.hir_raw.specs.Scope.{Scope}
-use Rattle.infer_table.specs.Bindings.{AllOf}
-use Rattle.infer_table.specs.Preserved.{BindsOnly, made_of_resolved_term}
-use Rattle.infer_table.specs.Resolution.{resolution_term}
-use Rattle.infer_table.specs.Solutions.{AreOf, log_of}
-use Rattle.infer_table.specs.Table.{State, bindings, resolved_type}
-use Rattle.infer_table.proofs.BindingLaws.{resolved_made}
-use Rattle.infer_ctx.specs.Fine.{AllFine, IsFine, is_fine_head}
+use Rattle.infer_coerce.specs.Words.{Ty, term, Scope, AllOf, BindsOnly, made_of_resolved_term, resolution_term, AreOf, State, bindings, resolved_type, AllFine, IsFine, is_fine_head}
+use Rattle.infer_coerce.specs.Words.infer_table.Solutions.{log_of}
+use Rattle.infer_coerce.proofs.Words.{resolved_made}
 
 -- a fine type is still fine
 pub resolved_fine : (sc : Scope) (state : State) (t : Ty) → AllOf state.substitution.kinds (bindings state)

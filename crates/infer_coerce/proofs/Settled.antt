@@ -1,16 +1,9 @@
 -- Types that are the same from here on, or differ.
 use Rattle.std.proofs.Common.{ℕ, ◌≡◌, ◌⊎◌, ◌<◌, ◌≤◌, ◌+◌, inl, inr, refl, sym, subst, ◌∙◌, arith, Bool, List, length, slice_get, Some}
 use Rattle.std.proofs.lemmas.Option.{slice_get_within}
-use Rattle.hir_types.specs.declared.ty.Ty.{Ty}
-use Rattle.infer_result.specs.Closed.{IsOfBody}
-use Rattle.infer_result.specs.Places.{Given}
-use Rattle.infer_ctx.specs.declared.context.InferenceContext.{InferenceContext}
-use Rattle.infer_ctx.specs.Closings.{IsSound}
-use Rattle.infer_ctx.specs.Fine.{AllFine, IsFine}
-use Rattle.infer_ctx.specs.Steps.{Follows, OnlyBinds}
-use Rattle.infer_ctx.proofs.AtEach.{closes_before}
-use Rattle.infer_ctx.proofs.FineTypes.{all_fine_grown, every_at}
-use Rattle.infer_coerce.specs.MadeEqual.{SameOrDiffer, IsUnifiedIf, UnifiesAll}
+use Rattle.infer_coerce.specs.Words.{Ty, IsOfBody, Given, InferenceContext, IsSound, AllFine, IsFine, Follows, OnlyBinds}
+use Rattle.infer_coerce.proofs.Words.{closes_before, all_fine_grown, every_at}
+use Rattle.infer_coerce.specs.Own.{SameOrDiffer, IsUnifiedIf, UnifiesAll}
 use Rattle.infer_coerce.proofs.Unified.{binds_nothing, binds_twice, settled_by}
 
 -- they are, or do, once more is found out

@@ -1,22 +1,8 @@
 -- A table gone back, with some holes more that nothing names.
 use Rattle.std.proofs.Common.{refl, sym, subst, arith}
-use Rattle.hir_types.specs.Terms.{terms_of}
-use Rattle.infer_table.specs.Preserved.{BindsOnly}
-use Rattle.infer_table.specs.Solutions.{Solves, log_of}
-use Rattle.infer_table.specs.Table.{State, Grew, IsBack, IsFront, bindings}
-use Rattle.infer_table.specs.Waiting.{Waiting, waiting}
-use Rattle.infer_table.proofs.UndoLaws.{front_itself}
-use Rattle.infer_ctx.specs.Below.{stays_with}
-use Rattle.infer_result.specs.Closed.{IsOfBody}
-use Rattle.infer_result.specs.Places.{Given}
-use Rattle.infer_ctx.specs.Context.{with_table}
-use Rattle.infer_ctx.specs.declared.context.InferenceContext.{InferenceContext}
-use Rattle.infer_ctx.specs.Closings.{IsSound}
-use Rattle.infer_ctx.specs.Fine.{AreFinePairs, is_fine_head}
-use Rattle.infer_ctx.specs.Steps.{OnlyBinds}
-use Rattle.infer_ctx.proofs.Asked.{told_same}
-use Rattle.infer_ctx.proofs.UnderClosings.{kept_later}
-use Rattle.infer_ctx.proofs.FineTypes.{fine_asked_grown, fine_pairs_grown, seen_fine_grown, table_fine_grown}
+use Rattle.infer_coerce.specs.Words.{terms_of, BindsOnly, Solves, State, Grew, IsBack, IsFront, bindings, Waiting, waiting, stays_with, IsOfBody, Given, with_table, InferenceContext, IsSound, AreFinePairs, is_fine_head, OnlyBinds}
+use Rattle.infer_coerce.specs.Words.infer_table.Solutions.{log_of}
+use Rattle.infer_coerce.proofs.Words.{front_itself, told_same, kept_later, fine_asked_grown, fine_pairs_grown, seen_fine_grown, table_fine_grown}
 
 module _ (g : Given) (c : InferenceContext) (after : State) (b : IsBack c.goals.table after) where
   back_grew : Grew c.goals.table after

@@ -1,60 +1,18 @@
 -- Two types unified, or refused, at an expression.
 use Rattle.std.proofs.Common.{◌≡◌, refl, subst, sym, Bool, ◌∙◌, true, false, arith, ℕ, zero, suc, ◌+◌, ◌++◌, if◌then◌else◌, List, [], ◌∷◌, length, Some, slice_get, ◌⊎◌, inl, inr, ap, None, ◌<◌, Option, Ok, Err}
 use Rattle.std.proofs.Math.Nat.{eq-or-lt_of_le}
-use Rattle.hir_types.specs.declared.ty.IntegerTy.{IntegerTy}
+use Rattle.infer_coerce.specs.Words.{IntegerTy, term, IsInt, hole, terms_of, term_bool, term_char, term_error, term_param, term_tuple, term_adt_types, term_fn_def_types, term_associated_types, integer_type, Hole, Ty, Assignment, composed, folded, ExprId, IsCarriedType, carried_error, Scope, fallback, completion, whole, IsMadeOf, BindsOnly, made_of_resolved, unified_makes_same, refused_apart, binds_only_unified, resolution, resolution_terms, IsOpenOrKnown, Respects, Solves, State, bindings, Meets, AreUnified, AreRefused, AreUnifiedIf, Grew, TakesFirstKnown, TakesKnown, resolved_type, resolved_term, is_type_hole, with_waiting, waiting, Waiting, with_pair, is_taken, WaitingPair, Substitution, stays_with, IsOfBody, Given, mismatch, At, TypeMismatch, IsClosing, Closes, IsSound, IsDecided, IsAwaited, AskedIsKept, AskedIsDecided, closed_mismatch, closed_mismatches, closed_table, found_under, same_types, is_fine_head, HasFineHeads, IsFine, AreFinePairs, InferenceContext, OnlyBinds, waiting_at, with_table, noted, IsTold}
 use Rattle.hir_types.specs.declared.ty.IntegerTy.TheVariants.{Int, Uint}
-use Rattle.hir_types.specs.Terms.{term, IsInt, hole, terms_of}
-use Rattle.hir_types.specs.TermLaws.{term_bool, term_char, term_error, term_param, term_tuple, term_adt_types, term_fn_def_types, term_associated_types}
-use Rattle.hir_types.specs.Types.{integer_type}
-use Rattle.hir_types.specs.declared.head.Hole.{Hole}
-use Rattle.hir_types.specs.declared.ty.Ty.{Ty}
-use Rattle.hir_types.specs.Subst.{Assignment, composed, folded}
-use Rattle.hir_types.specs.declared.ids.ExprId.{ExprId}
 use Rattle.hir_types.specs.declared.head.Hole.TheVariants as hole_of
 use Rattle.hir_types.specs.declared.ty.IntTy.TheVariants as int
 use Rattle.hir_types.specs.declared.head.Head.TheVariants as head
 use Rattle.hir_types.specs.declared.ty.Ty.TheVariants as ty
 use Rattle.hir_types.specs.declared.ids.ExprOrPatId.TheVariants as node
-use Rattle.hir_types.proofs.Equal.{ty_decides}
-use Rattle.hir_facts.specs.CarriedTypes.{IsCarriedType, carried_error}
-use Rattle.hir_raw.specs.Scope.{Scope}
-use Rattle.hir_types.specs.Fallback.{fallback}
-use Rattle.infer_table.specs.Completion.{completion}
-use Rattle.infer_table.specs.Preserved.{whole, IsMadeOf, BindsOnly, made_of_resolved, unified_makes_same, refused_apart, binds_only_unified}
-use Rattle.infer_table.specs.Resolution.{resolution, resolution_terms, IsOpenOrKnown}
-use Rattle.infer_table.specs.Solutions.{Respects, log_of, Solves}
-use Rattle.infer_table.specs.Table.{State, bindings, Meets, AreUnified, AreRefused, AreUnifiedIf, Grew, TakesFirstKnown, TakesKnown, resolved_type, resolved_term, is_type_hole, with_waiting}
-use Rattle.infer_table.specs.Waiting.{waiting, Waiting, with_pair, is_taken}
-use Rattle.infer_table.specs.declared.waiting.WaitingPair.{WaitingPair}
-use Rattle.infer_table.proofs.WaitingLaws.{left_from-push}
-use Rattle.infer_table.specs.Bindings.{Substitution}
-use Rattle.infer_table.proofs.HoleLaws.{grew_twice}
-use Rattle.infer_table.proofs.TableLaws.{hole_where_open, is_var_at}
-use Rattle.infer_table.proofs.UndoLaws.{front_itself}
-use Rattle.infer_table.proofs.BindingLaws.{get_last}
-use Rattle.infer_ctx.specs.Below.{stays_with}
-use Rattle.infer_result.specs.Closed.{IsOfBody}
-use Rattle.infer_result.specs.Places.{Given}
-use Rattle.infer_result.specs.Table.{mismatch, At}
-use Rattle.infer_result.specs.declared.result.TypeMismatch.{TypeMismatch}
-use Rattle.infer_ctx.specs.Closings.{IsClosing, Closes, IsSound, IsDecided, IsAwaited, AskedIsKept, AskedIsDecided, closed_mismatch, closed_mismatches, closed_table, found_under, same_types}
-use Rattle.infer_ctx.specs.Fine.{is_fine_head, HasFineHeads, IsFine, AreFinePairs}
-use Rattle.infer_ctx.specs.declared.context.InferenceContext.{InferenceContext}
-use Rattle.infer_ctx.specs.Steps.{OnlyBinds}
-use Rattle.infer_ctx.specs.Context.{with_mismatch, waiting_at, with_table}
-use Rattle.infer_ctx.specs.Found.{noted}
+use Rattle.infer_coerce.proofs.Words.{ty_decides, left_from-push, grew_twice, hole_where_open, is_var_at, front_itself, get_last, CarriedCases, over_carried, fine_closed, same_closed, apart_closed, closing_respects, kept_later, closes_same, decided_later, mismatch_under, of_body_mismatch, sound_mismatch, asked-same, asked-apart, table_fine_grown, seen_fine_grown, fine_pairs_grown, fine_asked_grown, fine_no_alias, fine_grown, told_same, told_beside, follows_itself, follows_twice, closes_before, noted-cases}
+use Rattle.infer_coerce.specs.Words.infer_table.Solutions.{log_of}
+use Rattle.infer_ctx.specs.Context.{with_mismatch}
 use Rattle.infer_ctx.specs.Found as found
-use Rattle.infer_ctx.proofs.OverTypes.{CarriedCases, over_carried, fine_closed, same_closed, apart_closed, closing_respects}
-use Rattle.infer_ctx.proofs.UnderClosings.{kept_later, closes_same, decided_later, mismatch_under, of_body_mismatch, sound_mismatch, asked-same, asked-apart}
-use Rattle.infer_ctx.proofs.FineTypes.{table_fine_grown, seen_fine_grown, fine_pairs_grown, fine_asked_grown, fine_no_alias, fine_grown}
-use Rattle.infer_ctx.specs.Asked.{IsTold}
-use Rattle.infer_ctx.proofs.Asked.{told_same, told_beside}
-use Rattle.infer_ctx.proofs.AtEach.{follows_itself, follows_twice, closes_before}
-use Rattle.infer_ctx.proofs.Lists.{noted-cases}
-use Rattle.infer_coerce.specs.MadeEqual.{SameOrDiffer, IsUnifiedIf, UnifiesFirst, UnifiesNext}
-use Rattle.infer_coerce.specs.Coercions.{IsCoercion, IsCoerced, IsCoercedOrNot, MayWait}
-use Rattle.infer_coerce.specs.declared.coercion.Coerced.{Coerced}
-use Rattle.infer_coerce.specs.declared.coercion.NotCoercible.{NotCoercible}
+use Rattle.infer_coerce.specs.Own.{SameOrDiffer, IsUnifiedIf, UnifiesFirst, UnifiesNext, IsCoercion, IsCoerced, IsCoercedOrNot, MayWait, Coerced, NotCoercible}
 
 -- ---- the completion of holes closes the context
 integer_of : CarriedCases (λ t. IsInt (term t) → (i : IntegerTy) × (t ≡ integer_type i))

@@ -1,17 +1,7 @@
 -- What comes of a coercion.
 use Rattle.std.specs.Prelude.{◌≡◌, ◌⊎◌, Bool, true, false, Result, Ok, Err}
-use Rattle.hir_types.specs.declared.ids.ExprId.{ExprId}
-use Rattle.hir_types.specs.declared.ty.Ty.{Ty}
-use Rattle.hir_types.specs.Subst.{Assignment, folded}
+use Rattle.infer_coerce.specs.Words.{ExprId, Ty, Assignment, folded, IsUnknownPair, mismatch, Given, Found, with_mismatch, InferenceContext, IsUnasked, Follows, waiting_at, Closes, found_under}
 use Rattle.hir_types.specs.declared.ids.ExprOrPatId.TheVariants as node
-use Rattle.infer_table.specs.Table.{IsUnknownPair}
-use Rattle.infer_result.specs.Table.{mismatch}
-use Rattle.infer_result.specs.Places.{Given}
-use Rattle.infer_ctx.specs.Found.{Found, with_mismatch}
-use Rattle.infer_ctx.specs.declared.context.InferenceContext.{InferenceContext}
-use Rattle.infer_ctx.specs.Steps.{IsUnasked, Follows}
-use Rattle.infer_ctx.specs.Context.{waiting_at}
-use Rattle.infer_ctx.specs.Closings.{Closes, found_under}
 use Rattle.infer_coerce.specs.declared.coercion.Coerced.{Coerced}
 use Rattle.infer_coerce.specs.declared.coercion.NotCoercible.{NotCoercible}
 use Rattle.infer_coerce.specs.MadeEqual.{IsUnifiedIf}

@@ -1,17 +1,6 @@
 -- The common type of several expressions, as far as they are typed.
 use Rattle.std.specs.Prelude.{◌≡◌, ◌⊎◌, Bool, true, false, Option, Some, None}
-use Rattle.hir_types.specs.Subst.{Assignment, folded}
-use Rattle.hir_types.specs.declared.ids.ExprId.{ExprId}
-use Rattle.hir_types.specs.declared.ty.Ty.{Ty}
-use Rattle.hir_raw.specs.Scope.{Scope}
-use Rattle.infer_table.specs.Table.{State, Grew}
-use Rattle.infer_ctx.specs.Below.{StaysButHoles}
-use Rattle.infer_result.specs.Places.{Given}
-use Rattle.infer_ctx.specs.Found.{Found}
-use Rattle.infer_ctx.specs.Fine.{IsFine}
-use Rattle.infer_ctx.specs.declared.context.InferenceContext.{InferenceContext}
-use Rattle.infer_ctx.specs.Closings.{Closes, found_under, IsSound}
-use Rattle.infer_ctx.specs.Steps.{Follows}
+use Rattle.infer_coerce.specs.Words.{Assignment, folded, ExprId, Ty, Scope, State, Grew, StaysButHoles, Given, Found, IsFine, InferenceContext, Closes, found_under, IsSound, Follows}
 use Rattle.infer_coerce.specs.declared.coerce_many.CoerceMany.{CoerceMany}
 use Rattle.infer_coerce.specs.Coercions.{IsCoercedIf, IsCoercedOrNot, IsCoerced}
 use Rattle.infer_coerce.specs.declared.coerce_many.CoerceMany.TheVariants as common

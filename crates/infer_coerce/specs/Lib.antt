@@ -2,3 +2,5 @@ pub mod Common
 pub mod Coercions
 pub mod MadeEqual
 pub mod Recursion
+pub mod Words
+pub mod Own

@@ -1,15 +1,6 @@
 -- Types made equal, and the pairs that wait for it.
 use Rattle.std.specs.Prelude.{◌≡◌, ◌⊎◌, Bool, true, false, ℕ, List, slice_get, Some}
-use Rattle.hir_types.specs.declared.ty.Ty.{Ty}
-use Rattle.hir_types.specs.Subst.{Assignment, folded}
-use Rattle.infer_table.specs.Table.{State, AllUnknown, TakesFirstKnown}
-use Rattle.infer_table.specs.Waiting.{waiting}
-use Rattle.infer_table.specs.declared.waiting.WaitingPair.{WaitingPair}
-use Rattle.infer_result.specs.Places.{Given}
-use Rattle.infer_result.specs.Table.{mismatch}
-use Rattle.infer_ctx.specs.declared.context.InferenceContext.{InferenceContext}
-use Rattle.infer_ctx.specs.Closings.{Closes, IsDecided, AskedIsDecided}
-use Rattle.infer_ctx.specs.Steps.{OnlyBinds}
+use Rattle.infer_coerce.specs.Words.{Ty, Assignment, folded, State, AllUnknown, TakesFirstKnown, waiting, WaitingPair, Given, mismatch, InferenceContext, Closes, IsDecided, AskedIsDecided, OnlyBinds}
 
 -- they are the same, or they differ
 abbrev pub Are : Bool → Ty → Ty → Type 0

@@ -2,14 +2,7 @@
 use Rattle.std.specs.Prelude.{ℕ, ◌≤◌, Result, IfOk}
 use Rattle.std.specs.Borrow.{MutBor}
 use Rattle.std.specs.declared.alloc.AllocError.{AllocError}
-use Rattle.hir_types.specs.declared.ids.ExprId.{ExprId}
-use Rattle.hir_types.specs.declared.ty.Ty.{Ty}
-use Rattle.hir_raw.specs.declared.schedule.Schedule.{Schedule}
-use Rattle.infer_result.specs.Places.{Given}
-use Rattle.infer_ctx.specs.declared.context.InferenceContext.{InferenceContext}
-use Rattle.infer_ctx.specs.declared.expectation.Expectation.{Expectation}
-use Rattle.infer_ctx.specs.Context.{expected_type}
-use Rattle.infer_ctx.specs.Steps.{Before, OwnDone}
+use Rattle.infer_coerce.specs.Words.{ExprId, Ty, Schedule, Given, InferenceContext, Expectation, expected_type, Before, OwnDone}
 
 -- it may be made from the clock k on, and does as `OwnDone` says
 pub record InfersFrom (g : Given) (s : Schedule) (k : ℕ) (pre : MutBor InferenceContext → ExprId → Expectation → Type 0) (post : MutBor InferenceContext → ExprId → Expectation → Result Ty AllocError → MutBor InferenceContext → Type 0) : Type 0 where

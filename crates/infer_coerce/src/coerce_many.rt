@@ -1,14 +1,10 @@
 //! The common type of several expressions.
 ghost use Rattle.std.specs.Prelude.{◌≡◌, ◌<◌, IfOk, length, Some, None};
-ghost use Rattle.hir_types.specs.Types.{unit};
-ghost use Rattle.infer_result.specs.Closed.{IsOfBody};
-ghost use Rattle.infer_ctx.specs.Context.{given_of, scope_in, expected_type};
-ghost use Rattle.infer_ctx.specs.Closings.{IsSound};
-ghost use Rattle.infer_ctx.specs.Fine.{IsFine, IsFineExpectation};
-ghost use Rattle.infer_coerce.specs.Common.{IsFineCommon, Merges, Completes, common_of};
+ghost use Rattle.infer_coerce.specs.Words.{unit, IsOfBody, given_of, scope_in, expected_type, IsSound, IsFine, IsFineExpectation};
+ghost use Rattle.infer_coerce.specs.Own.{IsFineCommon, Merges, Completes, common_of};
 
 use crate::coercion::demand_coerce;
-use hir_facts::{ExprId, List, Ty};
+use infer_ctx::hir_facts::{ExprId, List, Ty};
 use infer_ctx::{Expectation, GivenBody, InferenceContext};
 use std::alloc::{AllocError, Global};
 

@@ -1,19 +1,13 @@
 //! Coercions.
 ghost use Rattle.std.specs.Prelude.{◌≡◌, ◌<◌, ◌++◌, ◌∷◌, [], IfOk, IsTrue, length};
 ghost use Rattle.hir_types.specs.declared.ids.ExprOrPatId.TheVariants as node;
-ghost use Rattle.infer_table.specs.Table.{IsUnknownPair};
-ghost use Rattle.infer_table.specs.Waiting.{waiting};
-ghost use Rattle.infer_result.specs.Table.{mismatch};
-ghost use Rattle.infer_result.specs.Closed.{IsOfBody};
-ghost use Rattle.infer_ctx.specs.Context.{given_of, scope_in, waiting_at};
-ghost use Rattle.infer_ctx.specs.Closings.{IsSound};
-ghost use Rattle.infer_ctx.specs.Fine.{IsFine};
-ghost use Rattle.infer_coerce.specs.Coercions.{IsCoercion, IsCoerced, MayWait};
+ghost use Rattle.infer_coerce.specs.Words.{IsUnknownPair, waiting, mismatch, IsOfBody, given_of, scope_in, waiting_at, IsSound, IsFine};
+ghost use Rattle.infer_coerce.specs.Own.{IsCoercion, IsCoerced, MayWait};
 
 use crate::unification::unify;
-use hir_facts::{ExprId, ExprOrPatId, Ty};
+use infer_ctx::hir_facts::{ExprId, ExprOrPatId, Ty};
+use infer_ctx::infer_result::TypeMismatch;
 use infer_ctx::{GivenBody, InferenceContext};
-use infer_result::TypeMismatch;
 use std::alloc::{AllocError, Global};
 use thiserror::Error;
 

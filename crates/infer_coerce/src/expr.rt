@@ -1,13 +1,12 @@
 //! An expression, and what is expected of it.
 ghost use Rattle.std.specs.Prelude.{IfOk};
-ghost use Rattle.infer_ctx.specs.Context.{given_of, schedule_of, expected_type};
-ghost use Rattle.infer_ctx.specs.Steps.{Before, CoerceDone};
-ghost use Rattle.infer_coerce.specs.Recursion.{InfersFrom};
+ghost use Rattle.infer_coerce.specs.Words.{given_of, schedule_of, expected_type, Before, CoerceDone};
+ghost use Rattle.infer_coerce.specs.Own.{InfersFrom};
 
 use crate::coercion::{Coerced, NotCoercible, coerce};
-use hir_facts::{ExprId, Ty};
+use infer_ctx::hir_facts::{ExprId, Ty};
+use infer_ctx::infer_result::TypeMismatch;
 use infer_ctx::{Expectation, GivenBody, InferenceContext};
-use infer_result::TypeMismatch;
 use std::alloc::{AllocError, Global};
 
 /// Types an expression and coerces it to what is expected: `infer/expr.rs`, `infer_expr_coerce`.

@@ -1,14 +1,11 @@
 //! Types made equal, and the pairs of types that wait for it: `infer/unify.rs`.
 ghost use Rattle.std.specs.Prelude.{◌≡◌, IfOk, length, true};
-ghost use Rattle.infer_result.specs.Closed.{IsOfBody};
-ghost use Rattle.infer_ctx.specs.Closings.{IsSound};
-ghost use Rattle.infer_ctx.specs.Context.{given_of, scope_in};
-ghost use Rattle.infer_ctx.specs.Fine.{IsFine, AllFine, AreFinePairs};
-ghost use Rattle.infer_coerce.specs.MadeEqual.{IsUnifiedIf, NoneIsKnown, UnifiesAll, UnifiesNext, UnifiesKnown, UnifiesEach, Settles};
+ghost use Rattle.infer_coerce.specs.Words.{IsOfBody, IsSound, given_of, scope_in, IsFine, AllFine, AreFinePairs};
+ghost use Rattle.infer_coerce.specs.Own.{IsUnifiedIf, NoneIsKnown, UnifiesAll, UnifiesNext, UnifiesKnown, UnifiesEach, Settles};
 
-use hir_facts::Ty;
+use infer_ctx::hir_facts::Ty;
+use infer_ctx::infer_table::WaitingPair;
 use infer_ctx::{GivenBody, InferenceContext};
-use infer_table::WaitingPair;
 use std::alloc::AllocError;
 
 /// Makes two types equal, or changes nothing where no types for holes make them so. Then the

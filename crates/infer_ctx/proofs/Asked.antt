@@ -1,21 +1,8 @@
 -- What is asked stays so while holes are made and bound, and other things than types of expressions are recorded.
 use Rattle.std.proofs.Common.{◌≡◌, ◌∙◌, sym, ap, subst, List, Option, slice_get}
-use Rattle.hir_types.specs.declared.ty.Ty.{Ty}
-use Rattle.infer_table.proofs.UndoLaws.{grew_itself}
-use Rattle.infer_table.specs.Table.{Grew}
-use Rattle.infer_goals.specs.Below.{ItemSources}
-use Rattle.infer_goals.specs.declared.obligations.Obligations.{Obligations}
-use Rattle.infer_goals.specs.declared.table.GoalTable.{GoalTable}
-use Rattle.infer_goals.specs.Obligations.{AreCounted}
-use Rattle.infer_goals.specs.Stays.{StaysButHoles, kept_still, all_still, stays_itself}
-use Rattle.infer_result.specs.declared.result.InferenceResult.{InferenceResult}
-use Rattle.infer_result.specs.Needs.{needs_of}
-use Rattle.infer_result.specs.Places.{Given}
-use Rattle.infer_result.specs.Table.{recorded, At}
-use Rattle.infer_ctx.specs.declared.context.InferenceContext.{InferenceContext}
-use Rattle.infer_ctx.specs.Asked.{asked_at, AllAreAsked, TreeHasHeadsOf, AreSourcesIn, AreGoalsOf, IsTold}
-use Rattle.infer_ctx.specs.Fine.{is_fine_head}
-use Rattle.infer_ctx.specs.Tells.{TellsRecorded}
+use Rattle.infer_ctx.specs.Words.{Ty, Grew, ItemSources, Obligations, GoalTable, AreCounted, StaysButHoles, kept_still, all_still, stays_itself, InferenceResult, needs_of, Given, recorded, At}
+use Rattle.infer_ctx.proofs.Words.{grew_itself}
+use Rattle.infer_ctx.specs.Own.{InferenceContext, asked_at, AllAreAsked, TreeHasHeadsOf, AreSourcesIn, AreGoalsOf, IsTold, is_fine_head, TellsRecorded}
 
 module _ (g : Given) (c d : InferenceContext) (exprs : d.result.type_of_expr ≡ c.result.type_of_expr) (stays : StaysButHoles c.goals d.goals) (grew : Grew c.goals.table d.goals.table) where
   asked_still : AllAreAsked g.scope.facts g.body c → AllAreAsked g.scope.facts g.body d

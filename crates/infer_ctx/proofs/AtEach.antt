@@ -1,23 +1,8 @@
 -- From what holds of the context to what holds under each assignment that closes it, and back.
 use Rattle.std.proofs.Common.{arith, ◌∙◌, refl, Option, Some, None}
-use Rattle.hir_types.specs.Subst.{Assignment}
-use Rattle.hir_types.specs.declared.ty.Ty.{Ty}
-use Rattle.hir_types.specs.declared.ids.ExprId.{ExprId}
-use Rattle.hir_raw.specs.declared.schedule.Schedule.{Schedule}
-use Rattle.hir_raw.specs.Scope.{Scope}
-use Rattle.infer_table.proofs.UndoLaws.{grew_itself}
-use Rattle.infer_table.proofs.HoleLaws.{grew_twice}
-use Rattle.infer_table.specs.Table.{State}
-use Rattle.infer_result.specs.Closed.{IsOfBody}
-use Rattle.infer_result.specs.Places.{Given}
-use Rattle.infer_ctx.specs.declared.context.InferenceContext.{InferenceContext}
-use Rattle.infer_ctx.specs.Closings.{IsSound, Closes, found_under, IsClosing, expected_under}
-use Rattle.infer_ctx.specs.Steps.{Follows, IsWalking, Before, Within}
-use Rattle.infer_ctx.specs.Asked.{IsTold}
-use Rattle.infer_ctx.specs.Walks.{IsWalked}
-use Rattle.infer_ctx.specs.Context.{IsCarriedExpectation}
-use Rattle.infer_ctx.specs.Fine.{IsFineExpectation}
-use Rattle.infer_ctx.specs.Under.{ComesTo, IsInside}
+use Rattle.infer_ctx.specs.Words.{Assignment, Ty, ExprId, Schedule, Scope, State, IsOfBody, Given}
+use Rattle.infer_ctx.proofs.Words.{grew_itself, grew_twice}
+use Rattle.infer_ctx.specs.Own.{InferenceContext, IsSound, Closes, found_under, IsClosing, expected_under, Follows, IsWalking, Before, Within, IsTold, IsWalked, IsCarriedExpectation, IsFineExpectation, ComesTo, IsInside}
 use Rattle.infer_ctx.proofs.UnderClosings.{closes_earlier}
 use Rattle.infer_ctx.proofs.OverTypes.{fine_closed}
 

@@ -1,12 +1,7 @@
 -- Walks compose.
 use Rattle.std.proofs.Common.{inl, refl, arith, inr, ◌∙◌, slice_get, ◌⊎◌}
-use Rattle.hir_types.specs.declared.ids.ExprId.{ExprId}
-use Rattle.hir_raw.specs.declared.schedule.Schedule.{Schedule}
-use Rattle.infer_result.specs.Places.{Given}
-use Rattle.infer_result.specs.Demands.{Demand}
-use Rattle.infer_result.specs.declared.result.TypeMismatch.{TypeMismatch}
-use Rattle.infer_ctx.specs.Found.{Found}
-use Rattle.infer_ctx.specs.Walks.{Walks, IsWalked, Debt, expr_start, pat_start}
+use Rattle.infer_ctx.specs.Words.{ExprId, Schedule, Given, Demand, TypeMismatch}
+use Rattle.infer_ctx.specs.Own.{Found, Walks, IsWalked, Debt, expr_start, pat_start}
 use Rattle.infer_ctx.proofs.Keeps.{extends_refl, extends_trans, obeys_kept, pat_kept, pat_truth_kept, misfit_kept, demand_kept}
 use Rattle.infer_ctx.proofs.Lists.{lt_or_ge}
 

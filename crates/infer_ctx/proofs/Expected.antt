@@ -1,26 +1,9 @@
 -- What is read of a type that is resolved at its top, and what is expected of parts.
 use Rattle.std.proofs.Common.{◌≡◌, refl, sym, ap, ◌∙◌, inl, inr, ℕ, List, [], ◌∷◌, Option, Some, None}
-use Rattle.hir_types.specs.Subst.{folded, const_folded, with_holes, Replacement}
-use Rattle.hir_types.specs.Replacements.{replacing, at_ty, replaced_array, replaced_var, replaced_int_var, replaced_param}
-use Rattle.hir_types.specs.Folds.{in_ty, Maps}
-use Rattle.hir_types.specs.declared.ty.AliasBound.{AliasBound}
-use Rattle.hir_types.specs.declared.ty.Const.{Const}
-use Rattle.hir_types.specs.declared.ty.GenericArg.{GenericArg}
-use Rattle.hir_types.specs.declared.ty.TraitRef.{TraitRef}
-use Rattle.hir_types.specs.declared.ty.Ty.{Ty, Ty-F, out-Ty, roll-Ty, roll-out-Ty, out-roll-Ty}
+use Rattle.infer_ctx.specs.Words.{folded, const_folded, with_holes, Replacement, replacing, at_ty, replaced_array, replaced_var, replaced_int_var, replaced_param, in_ty, Maps, AliasBound, Const, GenericArg, TraitRef, Ty, Ty-F, out-Ty, roll-Ty, roll-out-Ty, out-roll-Ty, resolution, IsOpenOrKnown, open_var, open_int_var, State, bindings, resolved_type, Binding, ExprId, Schedule, Given}
 use Rattle.hir_types.specs.declared.ty.Ty.TheVariants as ty
-use Rattle.infer_table.specs.Resolution.{resolution, IsOpenOrKnown, open_var, open_int_var}
-use Rattle.infer_table.specs.Table.{State, bindings, resolved_type}
-use Rattle.infer_table.specs.declared.binding.Binding.{Binding}
-use Rattle.hir_types.specs.declared.ids.ExprId.{ExprId}
-use Rattle.hir_raw.specs.declared.schedule.Schedule.{Schedule}
-use Rattle.infer_result.specs.Places.{Given}
-use Rattle.infer_ctx.specs.declared.context.InferenceContext.{InferenceContext}
-use Rattle.infer_ctx.specs.Closings.{expected_under, found_under}
-use Rattle.infer_ctx.specs.Steps.{KindDone, Within}
-use Rattle.infer_ctx.specs.Walks.{PaidBy}
+use Rattle.infer_ctx.specs.Own.{InferenceContext, expected_under, found_under, KindDone, Within, PaidBy, IsLess, unless_open, unless_empty, of_alternatives, of_arms}
 use Rattle.infer_ctx.proofs.Category.{walks_paid}
-use Rattle.infer_ctx.specs.Context.{IsLess, unless_open, unless_empty, of_alternatives, of_arms}
 
 abbrev Layer : Type 0
 Layer = Ty-F GenericArg Ty AliasBound TraitRef

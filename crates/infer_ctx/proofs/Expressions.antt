@@ -1,19 +1,7 @@
 -- The walk comes to an expression, and records its type.
 use Rattle.std.proofs.Common.{refl, arith, Option, sym, subst, ◌∙◌, ◌≡◌}
-use Rattle.hir_types.specs.declared.ids.ExprId.{ExprId}
-use Rattle.hir_types.specs.declared.ty.Ty.{Ty}
-use Rattle.hir_types.specs.Subst.{folded}
-use Rattle.hir_raw.specs.declared.schedule.Schedule.{Schedule}
-use Rattle.hir_raw.specs.Scope.{Scope}
-use Rattle.infer_table.specs.Table.{Grew, State}
-use Rattle.infer_goals.specs.declared.table.GoalTable.{GoalTable}
-use Rattle.infer_result.specs.Places.{Given}
-use Rattle.infer_ctx.specs.declared.context.InferenceContext.{InferenceContext}
-use Rattle.infer_ctx.specs.Asked.{IsTold}
-use Rattle.infer_ctx.specs.Closings.{Closes, found_under, expected_under, IsSound}
-use Rattle.infer_ctx.specs.Fine.{IsFine}
-use Rattle.infer_ctx.specs.Steps.{Before, Within, OwnDone, KindDone, Follows}
-use Rattle.infer_ctx.specs.Under.{OwnWalked}
+use Rattle.infer_ctx.specs.Words.{ExprId, Ty, folded, Schedule, Scope, Grew, State, GoalTable, Given}
+use Rattle.infer_ctx.specs.Own.{InferenceContext, IsTold, Closes, found_under, expected_under, IsSound, IsFine, Before, Within, OwnDone, KindDone, Follows, OwnWalked}
 use Rattle.infer_ctx.specs.Context as context
 use Rattle.infer_ctx.proofs.OwnRecord.{entered_within, close}
 use Rattle.infer_ctx.proofs.UnderClosings.{closes_same, sound_entered, expr_ty_under, of_body_expr_ty, sound_expr_ty}

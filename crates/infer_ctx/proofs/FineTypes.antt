@@ -1,37 +1,15 @@
 -- Types that the walk may have in hand: kind by kind, their parts, and as the table grows.
 use Rattle.std.specs.Prelude.{nat_lt, ◌&&◌}
 use Rattle.std.proofs.Common.{List, [], ◌∷◌, ℕ, zero, suc, ◌≡◌, subst, Some, slice_get, sym, true≢false, length, refl, ap, ◌∙◌, true, ◌++◌, Option, None}
-use Rattle.hir_types.specs.declared.ty.Ty.{Ty, Ty-F, out-Ty, roll-Ty, roll-out-Ty}
-use Rattle.hir_types.specs.declared.head.Head.{Head}
-use Rattle.hir_types.specs.Terms.{Term, node, term, chain, leaf, type_part}
-use Rattle.hir_types.specs.TermLaws.{parts_of_types, term_bool, term_char, term_int, term_uint, term_tuple, term_param, term_var, term_int_var, term_adt_types, term_fn_def_types, term_associated_types}
-use Rattle.hir_types.specs.declared.ids.AdtId.{AdtId}
-use Rattle.hir_types.specs.declared.ids.CallableDefId.{CallableDefId}
-use Rattle.hir_types.specs.declared.ty.AliasBound.{AliasBound}
-use Rattle.hir_types.specs.declared.ty.GenericArg.{GenericArg}
-use Rattle.hir_types.specs.declared.ty.IntegerTy.{IntegerTy}
-use Rattle.hir_types.specs.declared.ty.TraitRef.{TraitRef}
-use Rattle.hir_types.specs.Types.{integer_type, unit}
+use Rattle.infer_ctx.specs.Words.{Ty, Ty-F, out-Ty, roll-Ty, roll-out-Ty, Head, Term, node, term, chain, leaf, type_part, parts_of_types, term_bool, term_char, term_int, term_uint, term_tuple, term_param, term_var, term_int_var, term_adt_types, term_fn_def_types, term_associated_types, AdtId, CallableDefId, AliasBound, GenericArg, IntegerTy, TraitRef, integer_type, unit, Scope, adt_params, has_params, alias_params, type_args, State, HolesAreOf, Grew, hole_count, with_new_hole, AreOf, width, whole, rest, IsMadeOf, NoAlias, are_of_hole, are_of_parts, WaitingPair, InferenceResult, TypeMismatch, AllTypes, AllSeen, TypeAliasId}
 use Rattle.hir_types.specs.declared.head.Head.TheVariants as head
 use Rattle.hir_types.specs.declared.head.Hole.TheVariants as hole_of
 use Rattle.hir_types.specs.declared.head.HoleKind.TheVariants as kind
 use Rattle.hir_types.specs.declared.ty.IntegerTy.TheVariants as integer
 use Rattle.hir_types.specs.declared.ty.Ty.TheVariants as ty
-use Rattle.hir_raw.specs.Scope.{Scope, adt_params, has_params, alias_params}
-use Rattle.hir_raw.specs.Signatures.{type_args}
-use Rattle.infer_table.specs.Table.{State, HolesAreOf, Grew, hole_count, with_new_hole}
-use Rattle.infer_table.specs.Solutions.{AreOf}
-use Rattle.infer_table.specs.Preserved.{width, whole, rest, IsMadeOf, NoAlias}
-use Rattle.infer_table.proofs.BindingLaws.{get_last}
-use Rattle.infer_table.specs.LogLemmas.{are_of_hole, are_of_parts}
-use Rattle.infer_table.specs.declared.waiting.WaitingPair.{WaitingPair}
-use Rattle.infer_result.specs.declared.result.InferenceResult.{InferenceResult}
-use Rattle.infer_result.specs.declared.result.TypeMismatch.{TypeMismatch}
-use Rattle.infer_result.specs.Closed.{AllTypes, AllSeen}
-use Rattle.infer_ctx.specs.Fine.{IsFine, Every, AllFine, item_params, is_fine_head, HasFineHeads, IsFineExpectation, AreFinePairs, IsFineAsked}
-use Rattle.infer_ctx.specs.Context.{component, element_type}
+use Rattle.infer_ctx.proofs.Words.{get_last}
+use Rattle.infer_ctx.specs.Own.{IsFine, Every, AllFine, item_params, is_fine_head, HasFineHeads, IsFineExpectation, AreFinePairs, IsFineAsked, component, element_type}
 use Rattle.infer_ctx.proofs.MadeHoles.{AllHolesAreOf, holes_are_of_grown, node_holes_are_of}
-use Rattle.hir_types.specs.declared.ids.TypeAliasId.{TypeAliasId}
 
 pub every_at : (P : Ty → Type 0) (ts : List Ty) (i : ℕ) (t : Ty) → Every P ts → slice_get ts i ≡ Some t → P t
 every_at P [] i t h e = absurd (cc)

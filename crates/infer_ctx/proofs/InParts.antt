@@ -1,24 +1,9 @@
 -- One part of a node after another. Each loop over parts and each single part of any kind goes by what is said here once.
 use Rattle.std.proofs.Common.{ℕ, ◌+◌, ◌<◌, ◌≤◌, ◌≡◌, ◌⊎◌, inr, List, [], ◌∷◌, length, drop, get_or, sym, ap, subst, ◌∙◌, arith, Option, Some, slice_get, zero, suc}
 use Rattle.std.proofs.Math.ListN.{drop_of_length-le}
-use Rattle.hir_types.specs.declared.ids.ExprId.{ExprId}
+use Rattle.infer_ctx.specs.Words.{ExprId, Ty, Assignment, Role, Node, Part, inner, end, after, expr_part, expr_parts, exprs_from, RawExpr, Schedule, TypeMismatch, Given, Demand}
 use Rattle.hir_types.specs.declared.ids.ExprOrPatId.TheVariants as node
-use Rattle.hir_types.specs.declared.ty.Ty.{Ty}
-use Rattle.hir_types.specs.Subst.{Assignment}
-use Rattle.hir_raw.specs.Order.{Role, Node, Part, inner, end, after, expr_part, expr_parts, exprs_from}
-use Rattle.hir_raw.specs.declared.raw.RawExpr.{RawExpr}
-use Rattle.hir_raw.specs.declared.schedule.Schedule.{Schedule}
-use Rattle.infer_result.specs.declared.result.TypeMismatch.{TypeMismatch}
-use Rattle.infer_result.specs.Places.{Given}
-use Rattle.infer_result.specs.Demands.{Demand}
-use Rattle.infer_ctx.specs.declared.context.InferenceContext.{InferenceContext}
-use Rattle.infer_ctx.specs.Closings.{Closes, found_under, expected_under}
-use Rattle.infer_ctx.specs.Fine.{IsFineExpectation}
-use Rattle.infer_ctx.specs.Found.{Found}
-use Rattle.infer_ctx.specs.Steps.{Follows, Before, Within, OwnDone, CoerceDone, OnlyBinds}
-use Rattle.infer_ctx.specs.Asked.{IsTold}
-use Rattle.infer_ctx.specs.Under.{IsReady, LieAhead}
-use Rattle.infer_ctx.specs.Walks.{Walks, Debt, Owed}
+use Rattle.infer_ctx.specs.Own.{InferenceContext, Closes, found_under, expected_under, IsFineExpectation, Found, Follows, Before, Within, OwnDone, CoerceDone, OnlyBinds, IsTold, IsReady, LieAhead, Walks, Debt, Owed}
 use Rattle.infer_ctx.proofs.AtEach.{follows_itself, follows_twice, closes_before, walking_after}
 use Rattle.infer_ctx.proofs.UnderClosings.{same_found}
 use Rattle.infer_ctx.proofs.Category.{walks_refl, walks_trans, walks_paid}

@@ -4,19 +4,10 @@ use Rattle.std.specs.Cmp.{first_so, second_so}
 use Rattle.std.proofs.Common.{ℕ, sym, ap, ◌∙◌, Bool, true≢false, ◌≡◌, refl, ◌&&◌, List, [], ◌∷◌, subst, true, length, map, Option, suc, Some, slice_get}
 use Rattle.std.proofs.lemmas.Bool.{ltb-true}
 use Rattle.std.proofs.lemmas.List.{length-map}
-use Rattle.hir_types.specs.declared.ty.Ty.{Ty-F, fold-roll-Ty, Ty}
-use Rattle.hir_types.specs.Assigned.{with_params}
-use Rattle.hir_types.specs.Replacements.{replaced_bool, replaced_char, replaced_int, replaced_uint, replaced_tuple, replaced_adt, replaced_fn_def}
-use Rattle.hir_types.specs.Instances.{param_at, types_args_replaced, instance_at_types}
-use Rattle.hir_types.specs.Subst.{Assignment, folded}
+use Rattle.infer_ctx.specs.Words.{Ty-F, fold-roll-Ty, Ty, with_params, replaced_bool, replaced_char, replaced_int, replaced_uint, replaced_tuple, replaced_adt, replaced_fn_def, param_at, types_args_replaced, instance_at_types, Assignment, folded, carried_arg, carried_step, carried_bound, carried_trait, is_carried_type, IsCarriedType, is_carried_arg, carried_type_arg, AreCarriedTypes, carried_tuple, carried_adt, carried_fn_def, type_args, at_args, RawFacts, Scope, has_params, adt_params, types_scope, State}
 use Rattle.hir_types.specs.declared.ty.Ty.TheVariants as ty
 use Rattle.hir_types.specs.declared.ty.IntegerTy.TheVariants as integer
-use Rattle.hir_facts.specs.CarriedTypes.{carried_arg, carried_step, carried_bound, carried_trait, is_carried_type, IsCarriedType, is_carried_arg, carried_type_arg, AreCarriedTypes, carried_tuple, carried_adt, carried_fn_def}
-use Rattle.hir_raw.specs.Signatures.{type_args, at_args}
-use Rattle.hir_raw.specs.declared.raw.RawFacts.{RawFacts}
-use Rattle.hir_raw.specs.Scope.{Scope, has_params, adt_params, types_scope}
-use Rattle.infer_table.specs.Table.{State}
-use Rattle.infer_ctx.specs.Fine.{item_params, HasFineHeads, IsFine, IsCarriedIn, Every, AllFine}
+use Rattle.infer_ctx.specs.Own.{item_params, HasFineHeads, IsFine, IsCarriedIn, Every, AllFine}
 use Rattle.infer_ctx.proofs.FineTypes.{every_at, fine_bool, fine_char, fine_integer, fine_tuple, fine_adt, fine_fn_def}
 use Rattle.infer_ctx.proofs.OverTypes.{over_fine, carried_closed}
 use Rattle.infer_ctx.proofs.Lists.{found}

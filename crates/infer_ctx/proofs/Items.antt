@@ -2,32 +2,12 @@
 use Rattle.std.specs.List.{list_all}
 use Rattle.std.proofs.Common.{ℕ, ◌≡◌, refl, sym, ap, ◌∙◌, Some, slice_get, option_and_then, None, Option, length, option_map, zero, suc, ◌&&◌, ◌+◌, ◌<◌, ◌≤◌, arith, true, List, subst, [], ◌∷◌, map}
 use Rattle.std.proofs.lemmas.Bool.{lt-ltb, eq-eqb}
-use Rattle.hir_types.specs.declared.ids.VariantId.{VariantId}
-use Rattle.hir_types.specs.declared.ids.FunctionId.{FunctionId}
-use Rattle.hir_types.specs.declared.ids.CallableDefId.{CallableDefId}
-use Rattle.hir_types.specs.declared.ids.AdtId.{AdtId}
-use Rattle.hir_types.specs.declared.ty.Ty.{Ty}
-use Rattle.hir_types.specs.declared.ids.TypeRefId.{TypeRefId}
+use Rattle.infer_ctx.specs.Words.{VariantId, FunctionId, CallableDefId, AdtId, Ty, TypeRefId, RawCtor, RawFacts, RawVariant, adt_params, fn_arity, variant_arity, callable_params, Scope, has_params, types_scope, Signature, signature_of, ctor_signature, signature_by, taken_types, variant_types, own_adt, fn_signature, fn_types, params_from, type_args, RawFn, RawType, is_carried_type, is_carried_arg, AreCarriedArgs, carried_bool, carried_char, carried_integer, carried_tuple, carried_param, carried_type_arg, carried_adt, written_type, RawAdt, RawField, IsModuleFn, IsLawful}
 use Rattle.hir_types.specs.declared.ids.CallableDefId.TheVariants as callable
 use Rattle.hir_types.specs.declared.ty.Ty.TheVariants as ty
-use Rattle.hir_raw.specs.declared.raw.RawCtor.{RawCtor}
-use Rattle.hir_raw.specs.declared.raw.RawFacts.{RawFacts}
-use Rattle.hir_raw.specs.declared.raw.RawVariant.{RawVariant}
-use Rattle.hir_raw.specs.Scope.{adt_params, fn_arity, variant_arity, callable_params, Scope, has_params, types_scope}
-use Rattle.hir_raw.specs.Signatures.{Signature, signature_of, ctor_signature, signature_by, taken_types, variant_types, own_adt, fn_signature, fn_types, params_from, type_args}
-use Rattle.hir_raw.specs.declared.raw.RawFn.{RawFn}
-use Rattle.hir_raw.specs.declared.raw.RawType.{RawType}
-use Rattle.hir_facts.specs.CarriedTypes.{is_carried_type, is_carried_arg, AreCarriedArgs, carried_bool, carried_char, carried_integer, carried_tuple, carried_param, carried_type_arg, carried_adt}
-use Rattle.hir_raw.specs.WrittenTypes.{written_type}
-use Rattle.hir_raw.specs.declared.raw.RawAdt.{RawAdt}
-use Rattle.hir_raw.specs.declared.raw.RawField.{RawField}
-use Rattle.hir_facts.proofs.Items.{variant_adt, variant_ctor, unit_aliases}
-use Rattle.hir_facts.specs.Ids.{IsModuleFn}
-use Rattle.hir_facts.specs.Lawful.{IsLawful}
-use Rattle.hir_facts.proofs.OpenedTypes.{Each, IsOver, over_input, over_output, over_field}
-use Rattle.hir_raw.specs.declared.raw.RawCtor.TheVariants as ctor
-use Rattle.infer_ctx.specs.Fine.{HasFineHeads, IsCarriedIn, Every}
-use Rattle.infer_ctx.specs.Under.{IsItem, IsVariant}
+use Rattle.infer_ctx.proofs.Words.{variant_adt, variant_ctor, unit_aliases, Each, IsOver, over_input, over_output, over_field}
+use Rattle.infer_ctx.specs.Words.hir_raw.declared.raw.RawCtor.TheVariants as ctor
+use Rattle.infer_ctx.specs.Own.{HasFineHeads, IsCarriedIn, Every, IsItem, IsVariant}
 use Rattle.infer_ctx.proofs.FineTypes.{heads_bool, heads_char, heads_integer, heads_tuple, heads_param, heads_adt}
 
 -- a constructor has a signature where it takes fields

@@ -1,53 +1,18 @@
 -- What is judged stays so, as more is recorded: one lemma for each judgement.
 use Rattle.std.proofs.Common.{inl, inr, ℕ, ◌≡◌, ap, unwrap_or, option_and_then, ◌∙◌, sym, subst, ◌⊎◌, List, [], ◌∷◌, ◌++◌, map, length, true, false, Option, Some, None, slice_get}
-use Rattle.hir_types.specs.declared.ty.Ty.{Ty}
-use Rattle.hir_types.specs.declared.ids.ExprId.{ExprId}
-use Rattle.hir_types.specs.declared.ids.PatId.{PatId}
-use Rattle.hir_types.specs.declared.ids.TypeRefId.{TypeRefId}
-use Rattle.hir_types.specs.declared.ids.VariantId.{VariantId}
-use Rattle.hir_types.specs.Types.{unit}
-use Rattle.hir_types.specs.Subst.{Assignment, folded}
+use Rattle.infer_ctx.specs.Words.{Ty, ExprId, PatId, TypeRefId, VariantId, unit, Assignment, folded, RawArm, RawStmt, RawExpr, RawPat, RawVariant, Signature, at_args, filled_agree, Role, initializer, let_pattern, tail, element, then_branch, else_branch, arm_pattern, arm, argument, subpattern, Node, the_body, inner, InferenceResult, PlaceholderTy, HasMismatch, AnyMismatch, WasSeen, mismatch, At, HasTy, hole_type, Given, let_types, declared, AreRecorded, IsAt, IsAtOrMismatch, MisfitsAs, PatIsAtOrMismatch, fields_at, IsCallee, IsInputAt, ArgsRule, GivesPart, Incoming, AsksOfAlternative, AsksOf, Asks, Demand, TypeMismatch, Seen, InferenceDiagnostic, at_or_mismatch, AllAt, LetRule, StmtRule, StmtsRule, TailRule, branches_of, ElseRule, arm_exprs, ArmPatterns, GuardRule, ArmsRule, ObeysOrMismatch, PatRule, AllPatsAt, PatsAtFields, IsItemOf, IsPatOf, IsTruePatMismatch, IsTrueSeen, IsTrueDiagnostic, IsMisfit}
 use Rattle.hir_types.specs.declared.ty.Ty.TheVariants as ty
 use Rattle.hir_types.specs.declared.ids.ExprOrPatId.TheVariants as node
-use Rattle.hir_raw.specs.declared.raw.RawArm.{RawArm}
-use Rattle.hir_raw.specs.declared.raw.RawStmt.{RawStmt}
-use Rattle.hir_raw.specs.declared.raw.RawExpr.{RawExpr}
-use Rattle.hir_raw.specs.declared.raw.RawPat.{RawPat}
-use Rattle.hir_raw.specs.declared.raw.RawVariant.{RawVariant}
-use Rattle.hir_raw.specs.Signatures.{Signature, at_args}
-use Rattle.hir_facts.specs.Filled.{filled_agree}
-use Rattle.hir_raw.specs.Order.{Role, initializer, let_pattern, tail, element, then_branch, else_branch, arm_pattern, arm, argument, subpattern, Node, the_body, inner}
-use Rattle.hir_raw.specs.declared.raw.RawStmt.TheVariants as stmt
-use Rattle.hir_raw.specs.declared.raw.RawExpr.TheVariants as expr
-use Rattle.hir_raw.specs.declared.raw.RawPath.TheVariants as path
-use Rattle.hir_raw.specs.declared.raw.RawPat.TheVariants as pat
-use Rattle.infer_result.specs.declared.result.InferenceResult.{InferenceResult}
-use Rattle.infer_result.specs.Table.{PlaceholderTy, HasMismatch, AnyMismatch, WasSeen, mismatch, At, HasTy}
-use Rattle.infer_result.specs.Places.{hole_type, Given, let_types, declared, AreRecorded, IsAt, IsAtOrMismatch, MisfitsAs, PatIsAtOrMismatch}
-use Rattle.infer_result.specs.Kinds.Constructor.{fields_at}
-use Rattle.infer_result.specs.Kinds.Call.{IsCallee, IsInputAt, ArgsRule}
-use Rattle.infer_result.specs.Incoming.{GivesPart, Gives, Incoming}
-use Rattle.infer_result.specs.Kinds.Alternative.{AsksOfAlternative}
-use Rattle.infer_result.specs.Demands.{AsksOf, Asks, IsAsked, Demand}
-use Rattle.infer_result.specs.declared.result.TypeMismatch.{TypeMismatch}
-use Rattle.infer_result.specs.declared.result.Seen.{Seen}
-use Rattle.infer_result.specs.declared.diagnostics.InferenceDiagnostic.{InferenceDiagnostic}
-use Rattle.infer_result.specs.Placing.{at_or_mismatch}
-use Rattle.infer_result.specs.Kinds.Tuple.{AllAt}
-use Rattle.infer_result.specs.Kinds.Block.{LetRule, StmtRule, StmtsRule, TailRule}
-use Rattle.infer_result.specs.Kinds.If.{branches_of, ElseRule}
-use Rattle.infer_result.specs.Kinds.Match.{arm_exprs, ArmPatterns, GuardRule, ArmsRule}
-use Rattle.infer_result.specs.Rules.{Rule, ObeysOrMismatch, PatRule}
-use Rattle.infer_result.specs.Pats.Tuple.{AllPatsAt}
-use Rattle.infer_result.specs.Pats.Constructor.{PatsAtFields, IsItemOf, IsPatOf}
-use Rattle.infer_result.specs.Truth.Mismatch.{IsTruePatMismatch}
-use Rattle.infer_result.specs.Truth.Seen.{IsTrueSeen}
-use Rattle.infer_result.specs.Truth.Diagnostics.{IsTrueDiagnostic}
-use Rattle.infer_result.specs.Made.{IsMisfit}
+use Rattle.infer_ctx.specs.Words.hir_raw.declared.raw.RawStmt.TheVariants as stmt
+use Rattle.infer_ctx.specs.Words.hir_raw.declared.raw.RawExpr.TheVariants as expr
+use Rattle.infer_ctx.specs.Words.hir_raw.declared.raw.RawPath.TheVariants as path
+use Rattle.infer_ctx.specs.Words.hir_raw.declared.raw.RawPat.TheVariants as pat
+use Rattle.infer_result.specs.Incoming.{Gives}
+use Rattle.infer_result.specs.Demands.{IsAsked}
+use Rattle.infer_result.specs.Rules.{Rule}
 use Rattle.infer_result.specs.declared.modes.BindingMode.TheVariants as mode
 use Rattle.infer_result.specs.declared.diagnostics.InferenceDiagnostic.TheVariants as diagnostic
-use Rattle.infer_ctx.specs.Walks.{Extends, IsSeenAs}
-use Rattle.infer_ctx.specs.Found.{Found, entered}
+use Rattle.infer_ctx.specs.Own.{Extends, IsSeenAs, Found, entered}
 
 pub extends_refl : (a : InferenceResult) → Extends a a
 extends_refl a = record {

@@ -1,21 +1,9 @@
 -- Literals and paths, which have no parts.
 use Rattle.std.proofs.Common.{◌≡◌, sym, subst, Some, slice_get, Option}
-use Rattle.hir_types.specs.declared.ids.ExprId.{ExprId}
-use Rattle.hir_types.specs.declared.ty.Ty.{Ty}
-use Rattle.hir_raw.specs.declared.raw.RawExpr.{RawExpr}
-use Rattle.hir_raw.specs.declared.schedule.Schedule.{Schedule}
-use Rattle.hir_facts.specs.CarriedTypes.{IsCarriedType}
-use Rattle.hir_raw.specs.declared.raw.RawLiteral.{RawLiteral}
-use Rattle.hir_raw.specs.declared.raw.RawExpr.TheVariants as expr
-use Rattle.infer_result.specs.declared.result.InferenceResult.{InferenceResult}
-use Rattle.infer_result.specs.Places.{Given}
-use Rattle.infer_result.specs.Placing.{at_or_mismatch}
-use Rattle.infer_result.specs.Rules.{Rule, ObeysOrMismatch}
-use Rattle.infer_result.specs.Table.{HasTy}
-use Rattle.infer_result.specs.Kinds.Literal.{IsLiteralType}
-use Rattle.infer_ctx.specs.Found.{Found}
-use Rattle.infer_ctx.specs.Walks.{Extends, PaidBy, expr_end}
-use Rattle.infer_ctx.specs.Under.{IsInside, KindWalked}
+use Rattle.infer_ctx.specs.Words.{ExprId, Ty, RawExpr, Schedule, IsCarriedType, RawLiteral, InferenceResult, Given, at_or_mismatch, ObeysOrMismatch, HasTy, IsLiteralType}
+use Rattle.infer_ctx.specs.Words.hir_raw.declared.raw.RawExpr.TheVariants as expr
+use Rattle.infer_result.specs.Rules.{Rule}
+use Rattle.infer_ctx.specs.Own.{Found, Extends, PaidBy, expr_end, IsInside, KindWalked}
 use Rattle.infer_ctx.proofs.Category.{walks_refl}
 use Rattle.infer_ctx.proofs.Types.{carried_literal}
 use Rattle.infer_ctx.proofs.Parts.{expr_ahead}

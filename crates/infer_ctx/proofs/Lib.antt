@@ -24,3 +24,4 @@ pub mod Variants
 pub mod Written
 pub mod InParts
 pub mod Expected
+pub mod Words

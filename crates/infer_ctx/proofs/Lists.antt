@@ -3,9 +3,8 @@ use Rattle.std.proofs.Common.{ℕ, ◌<◌, ◌≤◌, ◌⊎◌, arith, ◌≡�
 use Rattle.std.proofs.Math.ListN.{set, length-set}
 use Rattle.std.proofs.lemmas.List.{get_or-set_same, get_or-set_other, take_more, length-append, length-replicate, replicate_more}
 use Rattle.std.proofs.lemmas.Option.{slice_get-get_or, slice_get_past, slice_get_within}
-use Rattle.infer_result.specs.Table.{At, recorded}
-use Rattle.infer_ctx.specs.Walks.{IsFree}
-use Rattle.infer_ctx.specs.Found.{noted_where, noted, put}
+use Rattle.infer_ctx.specs.Words.{At, recorded}
+use Rattle.infer_ctx.specs.Own.{IsFree, noted_where, noted, put}
 
 pub lt_or_ge : (a b : ℕ) → (a < b) ⊎ (b ≤ a)
 lt_or_ge a b = grind arith

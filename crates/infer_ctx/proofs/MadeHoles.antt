@@ -2,16 +2,9 @@
 use Rattle.std.specs.Prelude.{List, [], ◌∷◌, ◌≡◌, slice_get, Some}
 use Rattle.std.proofs.Common.{sym, subst, inl, inr}
 use Rattle.std.proofs.lemmas.Bool.{or_cases}
-use Rattle.hir_types.specs.declared.ty.Ty.{Ty}
-use Rattle.hir_types.specs.declared.head.HoleKind.{HoleKind}
-use Rattle.hir_types.specs.Terms.{hole_number, chain, occurs, term, Term, node}
-use Rattle.hir_types.specs.TermLaws.{parts_of_types}
-use Rattle.hir_types.specs.declared.head.Head.{Head}
+use Rattle.infer_ctx.specs.Words.{Ty, HoleKind, hole_number, chain, occurs, term, Term, node, parts_of_types, Head, State, HolesAreOf, Grew, hole_kind, AreOf, are_of_leaf}
 use Rattle.hir_types.specs.declared.head.Head.TheVariants as head
-use Rattle.infer_table.specs.Table.{State, HolesAreOf, Grew}
-use Rattle.infer_table.proofs.BindingLaws.{get_left}
-use Rattle.infer_table.specs.Solutions.{hole_kind, AreOf}
-use Rattle.infer_table.specs.LogLemmas.{are_of_leaf}
+use Rattle.infer_ctx.proofs.Words.{get_left}
 
 -- each hole of each of the types is one that the table made
 abbrev pub AllHolesAreOf : State → List Ty → Type 0

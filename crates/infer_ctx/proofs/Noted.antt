@@ -1,15 +1,8 @@
 -- A mismatch that is noted at an expression.
 use Rattle.std.proofs.Common.{inl, ◌<◌, length, inr, refl, subst, ◌∙◌, ◌≡◌, ◌⊎◌, sym, slice_get}
-use Rattle.hir_types.specs.declared.ids.ExprId.{ExprId}
-use Rattle.hir_raw.specs.declared.schedule.Schedule.{Schedule}
-use Rattle.hir_facts.specs.CarriedTypes.{IsCarriedType}
-use Rattle.infer_result.specs.declared.result.TypeMismatch.{TypeMismatch}
-use Rattle.infer_result.specs.Table.{HasMismatch, At}
-use Rattle.infer_result.specs.Places.{Given}
-use Rattle.infer_result.specs.Demands.{Demand}
-use Rattle.infer_result.specs.Made.{IsMisfit}
-use Rattle.infer_ctx.specs.Found.{Found, with_mismatch}
-use Rattle.infer_ctx.specs.Walks.{Extends, IsWalked, Walks, Debt}
+use Rattle.infer_ctx.specs.Words.{ExprId, Schedule, IsCarriedType, TypeMismatch, HasMismatch, At, Given, Demand, IsMisfit}
+use Rattle.infer_ctx.specs.Own.{Found, Extends, IsWalked, Walks, Debt}
+use Rattle.infer_ctx.specs.Found.{with_mismatch}
 use Rattle.infer_ctx.proofs.Lists.{noted-keeps, noted-some, noted-cases, length-noted}
 use Rattle.infer_ctx.proofs.Keeps.{diagnostic_kept, seen_as_kept, extends_trans, obeys_kept, pat_kept, pat_truth_kept, misfit_kept, demand_kept}
 use Rattle.infer_ctx.proofs.Parts.{expr_id}

@@ -3,40 +3,15 @@ use Rattle.std.specs.Prelude.{nat_lt}
 use Rattle.std.specs.List.{list_all}
 use Rattle.std.specs.Cmp.{first_so, second_so}
 use Rattle.std.proofs.Common.{◌≡◌, List, Option, Some, None, refl, [], ◌∷◌, ℕ, length, Bool, true, sym, ap, subst, ◌∙◌, true≢false, map, ◌&&◌}
-use Rattle.hir_types.specs.declared.ty.AliasBound.{AliasBound}
-use Rattle.hir_types.specs.declared.ty.TraitRef.{TraitRef}
-use Rattle.hir_types.specs.declared.ty.GenericArg.{GenericArg, GenericArg-F, map-GenericArg, roll-GenericArg, fold-roll-GenericArg}
-use Rattle.hir_types.specs.declared.ty.Ty.{Ty, Ty-F, map-Ty, ind-Ty, roll-Ty, fold-roll-Ty}
-use Rattle.hir_types.specs.declared.ids.AdtId.{AdtId}
-use Rattle.hir_types.specs.declared.ids.CallableDefId.{CallableDefId}
-use Rattle.hir_types.specs.declared.ty.IntTy.{IntTy}
-use Rattle.hir_types.specs.declared.ty.UintTy.{UintTy}
-use Rattle.hir_types.specs.Folds.{in_ty}
-use Rattle.hir_types.specs.Terms.{Term, chain, type_part, term, arg_term, ty_step, apply, terms_of, IsInt}
-use Rattle.hir_types.specs.TermLaws.{terms, term_at, arg_term_at, term_adt_types, term_fn_def_types, term_folded, term_int, term_uint, term_bool, term_char, term_tuple, term_param, term_error, term_associated_types}
-use Rattle.hir_types.specs.Replacements.{replaced_bool, replaced_char, replaced_int, replaced_uint, replaced_tuple, replaced_adt, replaced_fn_def, replaced_param, replaced_var, replaced_int_var, replaced_error, replaced_associated_type}
-use Rattle.hir_types.specs.Instances.{types_args_folded}
-use Rattle.hir_types.specs.Subst.{Assignment, with_holes, folded}
-use Rattle.hir_types.specs.Faithful.{term_tells}
-use Rattle.hir_types.specs.declared.ty.IntegerTy.{IntegerTy}
-use Rattle.hir_types.specs.Types.{integer_type}
+use Rattle.infer_ctx.specs.Words.{AliasBound, TraitRef, GenericArg, GenericArg-F, map-GenericArg, roll-GenericArg, fold-roll-GenericArg, Ty, Ty-F, map-Ty, ind-Ty, roll-Ty, fold-roll-Ty, AdtId, CallableDefId, IntTy, UintTy, in_ty, Term, chain, type_part, term, arg_term, ty_step, apply, terms_of, IsInt, terms, term_at, arg_term_at, term_adt_types, term_fn_def_types, term_folded, term_int, term_uint, term_bool, term_char, term_tuple, term_param, term_error, term_associated_types, replaced_bool, replaced_char, replaced_int, replaced_uint, replaced_tuple, replaced_adt, replaced_fn_def, replaced_param, replaced_var, replaced_int_var, replaced_error, replaced_associated_type, types_args_folded, Assignment, with_holes, folded, term_tells, IntegerTy, integer_type, type_args, Scope, adt_params, has_params, alias_params, carried_arg, carried_step, carried_bound, carried_trait, is_carried_type, is_carried_arg, IsCarriedType, AreCarriedTypes, AreCarriedArgs, carried_tuple, carried_adt, carried_fn_def, carried_type_arg, carried_param, carried_bool, carried_char, carried_integer, same_carried, carried_associated, whole, part, rest, IsMadeOf, Respects, State, HolesAreOf, TypeAliasId}
 use Rattle.hir_types.specs.declared.ty.GenericArg.TheVariants as arg
 use Rattle.hir_types.specs.declared.ty.Ty.TheVariants as ty
 use Rattle.hir_types.specs.declared.ty.IntegerTy.TheVariants as integer
 use Rattle.hir_types.specs.declared.head.Hole.TheVariants as hole_of
 use Rattle.hir_types.specs.declared.head.Head.TheVariants as head
-use Rattle.hir_raw.specs.Signatures.{type_args}
-use Rattle.hir_raw.specs.Scope.{Scope, adt_params, has_params, alias_params}
-use Rattle.hir_facts.specs.CarriedTypes.{carried_arg, carried_step, carried_bound, carried_trait, is_carried_type, is_carried_arg, IsCarriedType, AreCarriedTypes, AreCarriedArgs, carried_tuple, carried_adt, carried_fn_def, carried_type_arg, carried_param, carried_bool, carried_char, carried_integer, same_carried, carried_associated}
-use Rattle.infer_table.specs.Preserved.{whole, part, rest, IsMadeOf}
-use Rattle.infer_table.specs.Solutions.{Respects}
-use Rattle.infer_table.specs.Table.{State, HolesAreOf}
-use Rattle.infer_ctx.specs.Fine.{IsFineExpectation, item_params, is_fine_head, HasFineHeads, IsFine, Every}
-use Rattle.infer_ctx.specs.Closings.{IsClosing, expected_under}
-use Rattle.infer_ctx.specs.Context.{IsCarriedExpectation}
+use Rattle.infer_ctx.specs.Own.{IsFineExpectation, item_params, is_fine_head, HasFineHeads, IsFine, Every, IsClosing, expected_under, IsCarriedExpectation}
 use Rattle.infer_ctx.proofs.FineTypes.{parts_width, all_holes, no_holes}
 use Rattle.infer_ctx.proofs.MadeHoles.{node_holes_are_of}
-use Rattle.hir_types.specs.declared.ids.TypeAliasId.{TypeAliasId}
 
 abbrev AnyBound : Type 0
 AnyBound = AliasBound × Unit {0}

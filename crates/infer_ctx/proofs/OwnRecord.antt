@@ -1,16 +1,9 @@
 -- The record of an expression's own type closes the walk of its parts.
 use Rattle.std.proofs.Common.{inl, inr, arith, Option, ◌<◌, ◌≡◌, ◌≢◌, refl, length, sym, ap, subst, ◌∙◌, Some, slice_get}
 use Rattle.std.proofs.Math.ListN.{length-set}
-use Rattle.hir_types.specs.declared.ids.ExprId.{ExprId}
-use Rattle.hir_types.specs.declared.ty.Ty.{Ty}
-use Rattle.hir_raw.specs.declared.schedule.Schedule.{Schedule}
-use Rattle.hir_facts.specs.CarriedTypes.{IsCarriedType}
-use Rattle.infer_result.specs.Places.{Given}
-use Rattle.infer_result.specs.Table.{HasTy}
-use Rattle.infer_result.specs.Rules.{ObeysOrMismatch}
-use Rattle.infer_ctx.specs.Found.{Found, entered, with_expr_ty}
-use Rattle.infer_ctx.specs.Walks.{pat_start, IsCarriedTable, IsWalked, IsFree, Extends, expr_start}
-use Rattle.infer_ctx.specs.Under.{ComesTo, IsInside, KindWalked, OwnWalked}
+use Rattle.infer_ctx.specs.Words.{ExprId, Ty, Schedule, IsCarriedType, Given, HasTy, ObeysOrMismatch}
+use Rattle.infer_ctx.specs.Own.{Found, entered, pat_start, IsCarriedTable, IsWalked, IsFree, Extends, expr_start, ComesTo, IsInside, KindWalked, OwnWalked}
+use Rattle.infer_ctx.specs.Found.{with_expr_ty}
 use Rattle.infer_ctx.proofs.Lists.{lt_or_ge, slice_get-set_same, slice_get-set_other, At-set, At-set_cases}
 use Rattle.infer_ctx.proofs.Parts.{expr_is_no_pat, binds_within, expr_id, one_expr}
 use Rattle.infer_ctx.proofs.Keeps.{seen_as_entered, extends_trans, obeys_kept, pat_kept, pat_truth_kept, diagnostic_kept, seen_as_kept, misfit_kept, demand_kept}

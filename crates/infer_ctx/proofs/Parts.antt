@@ -2,23 +2,9 @@
 use Rattle.std.specs.Option.{option_and_then}
 use Rattle.std.proofs.Common.{ℕ, ◌≡◌, ap, ◌<◌, length, refl, Option, Some, None, slice_get, ◌+◌, List, [], ◌∷◌, ◌++◌, suc, sym, subst}
 use Rattle.std.proofs.lemmas.Option.{slice_get_within}
-use Rattle.hir_types.specs.declared.ids.ExprId.{ExprId}
-use Rattle.hir_types.specs.declared.ids.PatId.{PatId}
-use Rattle.hir_types.specs.declared.ids.BindingId.{BindingId}
-use Rattle.hir_types.specs.declared.ty.Ty.{Ty}
+use Rattle.infer_ctx.specs.Words.{ExprId, PatId, BindingId, Ty, RawBody, Schedule, inner, IsSchedule, binding_of, Binds, Part, end, after, Node, parts, start, IsNode, parts_of_expr, expr_parts, Role, expr_part, parts_of_pat, pat_parts, RawPat, RawExpr, StandsAt, Given, IsAtOrMismatch, InferenceResult, AllAt}
 use Rattle.hir_types.specs.declared.ids.ExprOrPatId.TheVariants as node
-use Rattle.hir_raw.specs.declared.raw.RawBody.{RawBody}
-use Rattle.hir_raw.specs.declared.schedule.Schedule.{Schedule}
-use Rattle.hir_raw.specs.Order.{inner, IsSchedule, binding_of, Binds, Part, end, after, Node, parts, start, IsNode, parts_of_expr, expr_parts, Role, expr_part, parts_of_pat, pat_parts}
-use Rattle.hir_raw.specs.declared.raw.RawPat.{RawPat}
-use Rattle.hir_raw.specs.declared.raw.RawExpr.{RawExpr}
-use Rattle.infer_result.specs.Places.{StandsAt, Given, IsAtOrMismatch}
-use Rattle.infer_result.specs.declared.result.InferenceResult.{InferenceResult}
-use Rattle.infer_result.specs.Kinds.Tuple.{AllAt}
-use Rattle.infer_ctx.specs.Walks.{expr_start, pat_start, expr_end, IsWalked, pat_end}
-use Rattle.infer_ctx.specs.Under.{LieAhead, ComesTo, IsReady}
-use Rattle.infer_ctx.specs.Found.{Found}
-use Rattle.infer_ctx.specs.Context.{IsCarriedExpectation}
+use Rattle.infer_ctx.specs.Own.{expr_start, pat_start, expr_end, IsWalked, pat_end, LieAhead, ComesTo, IsReady, Found, IsCarriedExpectation}
 use Rattle.infer_ctx.proofs.Lists.{slice_get-append_left}
 
 pub all_push : (r : InferenceResult) (es : List ExprId) (ts : List Ty) (e : ExprId) (t : Ty) → AllAt (IsAtOrMismatch r) es ts → IsAtOrMismatch r e t → AllAt (IsAtOrMismatch r) (es ++ e ∷ []) (ts ++ t ∷ [])

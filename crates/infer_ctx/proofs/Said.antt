@@ -1,18 +1,10 @@
 -- What is said of look-ups that failed, beside what else is said.
 use Rattle.std.proofs.Common.{ℕ, suc, ◌≡◌, refl, List, ◌∷◌, Option, Some, None, slice_get, zero, sym, ap, ◌∙◌, [], slice_set, Bool, true, false, length, ◌⊎◌, inl, inr, ◌<◌, subst, ◌++◌}
 use Rattle.std.proofs.Math.ListN.{length-set}
-use Rattle.hir_types.specs.declared.ids.ExprId.{ExprId}
-use Rattle.hir_types.specs.declared.ty.Ty.{Ty}
-use Rattle.hir_types.specs.declared.ids.ExprOrPatId.{ExprOrPatId}
-use Rattle.hir_types.specs.Subst.{Assignment, folded}
+use Rattle.infer_ctx.specs.Words.{ExprId, Ty, ExprOrPatId, Assignment, folded, InferenceDiagnostic, has_unknown, Seen, At}
 use Rattle.hir_types.specs.declared.ids.ExprOrPatId.TheVariants as node
-use Rattle.infer_result.specs.declared.diagnostics.InferenceDiagnostic.{InferenceDiagnostic}
-use Rattle.infer_result.specs.Unknown.{has_unknown}
-use Rattle.infer_result.specs.declared.result.Seen.{Seen}
-use Rattle.infer_result.specs.Table.{At}
 use Rattle.infer_result.specs.declared.diagnostics.InferenceDiagnostic.TheVariants as diagnostic
-use Rattle.infer_ctx.specs.Found.{noted_where, noted}
-use Rattle.infer_ctx.specs.Said.{said_unless, said_at, said_of, said}
+use Rattle.infer_ctx.specs.Own.{noted_where, noted, said_unless, said_at, said_of, said}
 use Rattle.infer_ctx.proofs.Lists.{same_or_not, slice_get-set_other, slice_get-set_same}
 
 -- ---- what is noted past the first

@@ -1,30 +1,13 @@
 -- What functions and constructors take and give, at types in the place of parameters.
 use Rattle.std.proofs.Common.{ℕ, ◌≡◌, ◌≤◌, arith, refl, sym, ap, subst, ◌∙◌, List, length, take, Option, Some, None, slice_get, option_map, option_and_then}
 use Rattle.std.proofs.lemmas.List.{length-map, length-take-le, take-map}
-use Rattle.hir_types.specs.declared.ids.AdtId.{AdtId}
-use Rattle.hir_types.specs.declared.ids.FunctionId.{FunctionId}
-use Rattle.hir_types.specs.declared.ids.VariantId.{VariantId}
-use Rattle.hir_types.specs.declared.ty.GenericArg.{GenericArg}
-use Rattle.hir_types.specs.declared.ty.Ty.{Ty}
-use Rattle.hir_types.specs.Folds.{map_twice}
-use Rattle.hir_types.specs.Instances.{fn_def_tells}
+use Rattle.infer_ctx.specs.Words.{AdtId, FunctionId, VariantId, GenericArg, Ty, map_twice, fn_def_tells, RawAdt, RawCtor, RawFacts, RawField, RawFn, RawType, RawVariant, adt_params, variant_arity, Signature, fn_types, fn_signature, signature_of, signature_by, ctor_signature, variant_types, taken_types, own_adt, own_adt_first, type_args, at_args, written_type}
 use Rattle.hir_types.specs.declared.ids.CallableDefId.TheVariants as callable
 use Rattle.hir_types.specs.declared.ty.GenericArg.TheVariants as arg
 use Rattle.hir_types.specs.declared.ty.Ty.TheVariants as ty
-use Rattle.hir_raw.specs.declared.raw.RawAdt.{RawAdt}
-use Rattle.hir_raw.specs.declared.raw.RawCtor.{RawCtor}
-use Rattle.hir_raw.specs.declared.raw.RawFacts.{RawFacts}
-use Rattle.hir_raw.specs.declared.raw.RawField.{RawField}
-use Rattle.hir_raw.specs.declared.raw.RawFn.{RawFn}
-use Rattle.hir_raw.specs.declared.raw.RawType.{RawType}
-use Rattle.hir_raw.specs.declared.raw.RawVariant.{RawVariant}
-use Rattle.hir_raw.specs.Scope.{adt_params, variant_arity}
-use Rattle.hir_raw.specs.Signatures.{Signature, fn_types, fn_signature, signature_of, signature_by, ctor_signature, variant_types, taken_types, own_adt, own_adt_first, type_args, at_args}
-use Rattle.hir_raw.specs.WrittenTypes.{written_type}
-use Rattle.hir_raw.specs.declared.raw.RawCtor.TheVariants as ctor
-use Rattle.infer_table.proofs.BindingLaws.{get_from_take}
-use Rattle.infer_ctx.specs.declared.given.CallableSig.{CallableSig}
-use Rattle.infer_ctx.specs.Callables.{IsCallableItem, IsFnSig, IsCtorSig, IsSigOf, IsSigOfItem, ctor_at}
+use Rattle.infer_ctx.specs.Words.hir_raw.declared.raw.RawCtor.TheVariants as ctor
+use Rattle.infer_ctx.proofs.Words.{get_from_take}
+use Rattle.infer_ctx.specs.Own.{CallableSig, IsCallableItem, IsFnSig, IsCtorSig, IsSigOf, IsSigOfItem, ctor_at}
 use Rattle.infer_ctx.proofs.Items.{signature_count}
 
 module _ (raw : RawFacts) (sig : CallableSig) where

@@ -2,52 +2,18 @@
 use Rattle.std.specs.Prelude.{◌≡◌, List, length, [], ◌∷◌, refl, ℕ, Option, Some, None, slice_get, ◌⊎◌, ◌+◌, suc, zero, ◌++◌}
 use Rattle.std.specs.Option.{option_and_then}
 use Rattle.std.proofs.Common.{subst, ap, sym, ◌∙◌, inl, inr, arith}
-use Rattle.hir_types.specs.declared.ids.ExprId.{ExprId}
-use Rattle.hir_types.specs.declared.ty.Ty.{Ty, Ty-F, out-Ty, out-roll-Ty}
-use Rattle.hir_types.specs.declared.ids.AdtId.{AdtId}
-use Rattle.hir_types.specs.declared.ty.GenericArg.{GenericArg}
-use Rattle.hir_types.specs.declared.ids.CallableDefId.{CallableDefId}
-use Rattle.hir_types.specs.declared.ids.VariantId.{VariantId}
-use Rattle.hir_types.specs.declared.ids.TypeRefId.{TypeRefId}
-use Rattle.hir_types.specs.declared.ids.FunctionId.{FunctionId}
-use Rattle.hir_types.specs.declared.ids.BindingId.{BindingId}
-use Rattle.hir_types.specs.declared.ids.LabelId.{LabelId}
-use Rattle.hir_types.specs.Assigned.{with_params}
-use Rattle.hir_types.specs.declared.ids.PatId.{PatId}
+use Rattle.infer_ctx.specs.Words.{ExprId, Ty, Ty-F, out-Ty, out-roll-Ty, AdtId, GenericArg, CallableDefId, VariantId, TypeRefId, FunctionId, BindingId, LabelId, with_params, PatId, RawCtor, type_args, ctor_type_by, Signature, at_args, ctor_type, signature_of, HasNoHole, written_type, RawPath, RawVariant, RawExpr, RawArm, RawLiteral, RawStmt, names_item, callable_params, Role, parameter, let_pattern, Part, pat_part, param_parts, root, expr_part, the_body, arm_pattern, subpattern, Node, part_at, binding_of, Binds, RawBody, Schedule, IsWalkable, filled_written, Given, let_types, StandsAt, IsInput, tuple, outermost_step, HasHead, other, Outermost, HeadOf, of_up, of_tuple, of_function, of_ctor, of_output, filled_head, CallsItem, CallsNonGeneric, IsPathToItem, NamesLet, NamesParameter, NamesUnit, Up, of_literal, of_written, of_initializer, of_parameter, of_call, of_unit, IsOwnType}
 use Rattle.hir_types.specs.declared.ty.Ty.TheVariants as ty
 use Rattle.hir_types.specs.declared.head.Head.TheVariants as head
 use Rattle.hir_types.specs.declared.ids.CallableDefId.TheVariants as callable
 use Rattle.hir_types.specs.declared.ids.ExprOrPatId.TheVariants as node
-use Rattle.hir_raw.specs.declared.raw.RawCtor.{RawCtor}
-use Rattle.hir_raw.specs.Signatures.{type_args, ctor_type_by, Signature, at_args, ctor_type, signature_of}
-use Rattle.hir_facts.specs.Standing.{HasNoHole}
-use Rattle.hir_raw.specs.WrittenTypes.{written_type}
-use Rattle.hir_raw.specs.declared.raw.RawPath.{RawPath}
-use Rattle.hir_raw.specs.declared.raw.RawVariant.{RawVariant}
-use Rattle.hir_raw.specs.declared.raw.RawExpr.{RawExpr}
-use Rattle.hir_raw.specs.declared.raw.RawArm.{RawArm}
-use Rattle.hir_raw.specs.declared.raw.RawLiteral.{RawLiteral}
-use Rattle.hir_raw.specs.declared.raw.RawStmt.{RawStmt}
-use Rattle.hir_raw.specs.Scope.{names_item, callable_params}
-use Rattle.hir_raw.specs.Order.{Role, parameter, let_pattern, Part, pat_part, param_parts, root, expr_part, the_body, arm_pattern, subpattern, Node, part_at, binding_of, Binds}
-use Rattle.hir_raw.specs.declared.raw.RawBody.{RawBody}
-use Rattle.hir_raw.specs.declared.schedule.Schedule.{Schedule}
-use Rattle.hir_facts.specs.Bodies.{IsWalkable}
-use Rattle.hir_facts.specs.Filled.{filled_written}
-use Rattle.hir_raw.proofs.Ways.{one_place}
-use Rattle.hir_raw.specs.declared.raw.RawCtor.TheVariants as ctor
-use Rattle.hir_raw.specs.declared.raw.RawPath.TheVariants as path
-use Rattle.hir_raw.specs.declared.raw.RawExpr.TheVariants as expr
-use Rattle.hir_raw.specs.declared.raw.RawPat.TheVariants as pat
-use Rattle.infer_result.specs.Places.{Given, let_types, StandsAt}
-use Rattle.infer_result.specs.Incoming.{IsInput}
-use Rattle.infer_result.specs.Heads.{tuple, outermost_step, HasHead, other, Outermost, HeadOf, of_up, of_tuple, of_function, of_ctor, of_output, of_written as head_of_written, of_initializer as head_of_initializer, of_parameter as head_of_parameter, filled_head}
-use Rattle.infer_result.specs.Kinds.Call.{CallsItem, CallsNonGeneric, IsPathToItem}
-use Rattle.infer_result.specs.Kinds.Path.{NamesLet, NamesParameter, NamesUnit}
-use Rattle.infer_result.specs.Upward.{Up, of_literal, of_written, of_initializer, of_parameter, of_call, of_unit}
-use Rattle.infer_result.specs.Kinds.Literal.{IsOwnType}
-use Rattle.infer_result.proofs.Derived.{ctor_type_of_unit}
-use Rattle.infer_ctx.specs.Tells.{Tells, TellsBinding, TellsLet, TellsBound}
+use Rattle.infer_ctx.proofs.Words.{one_place, ctor_type_of_unit}
+use Rattle.infer_ctx.specs.Words.hir_raw.declared.raw.RawCtor.TheVariants as ctor
+use Rattle.infer_ctx.specs.Words.hir_raw.declared.raw.RawPath.TheVariants as path
+use Rattle.infer_ctx.specs.Words.hir_raw.declared.raw.RawExpr.TheVariants as expr
+use Rattle.infer_ctx.specs.Words.hir_raw.declared.raw.RawPat.TheVariants as pat
+use Rattle.infer_result.specs.Heads.{of_written as head_of_written, of_initializer as head_of_initializer, of_parameter as head_of_parameter}
+use Rattle.infer_ctx.specs.Own.{Tells, TellsBinding, TellsLet, TellsBound}
 use Rattle.infer_ctx.proofs.TellingsKept.{replaced_head}
 
 -- an equal type tells the same

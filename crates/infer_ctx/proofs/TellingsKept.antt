@@ -3,34 +3,11 @@
 use Rattle.std.specs.Prelude.{◌≡◌, map, Some, None, ℕ, List, [], slice_get}
 use Rattle.std.proofs.Common.{ap, sym, ◌∙◌, subst}
 use Rattle.std.proofs.lemmas.List.{length-map}
-use Rattle.hir_types.specs.declared.ty.AliasBound.{AliasBound}
-use Rattle.hir_types.specs.declared.ty.GenericArg.{GenericArg}
-use Rattle.hir_types.specs.declared.ty.TraitRef.{TraitRef}
-use Rattle.hir_types.specs.declared.ty.Ty.{Ty, Ty-F, out-Ty, out-roll-Ty, roll-Ty, roll-out-Ty}
-use Rattle.hir_types.specs.Replacements.{replacing, at_ty, replaced_int, replaced_uint, replaced_adt, replaced_bool, replaced_char}
-use Rattle.hir_types.specs.Folds.{in_ty}
-use Rattle.hir_types.specs.Subst.{Replacement, const_replaced, ty_layer, replaced, Assignment, with_holes, folded}
-use Rattle.hir_types.specs.declared.ids.TypeRefId.{TypeRefId}
-use Rattle.hir_types.specs.declared.ty.IntegerTy.{IntegerTy}
-use Rattle.hir_types.specs.Types.{integer_type}
-use Rattle.hir_types.specs.declared.ids.AdtId.{AdtId}
-use Rattle.hir_types.specs.declared.ids.ExprId.{ExprId}
-use Rattle.hir_types.specs.Instances.{instance_at_types}
+use Rattle.infer_ctx.specs.Words.{AliasBound, GenericArg, TraitRef, Ty, Ty-F, out-Ty, out-roll-Ty, roll-Ty, roll-out-Ty, replacing, at_ty, replaced_int, replaced_uint, replaced_adt, replaced_bool, replaced_char, in_ty, Replacement, const_replaced, ty_layer, replaced, Assignment, with_holes, folded, TypeRefId, IntegerTy, integer_type, AdtId, ExprId, instance_at_types, RawType, filled_written, filled_folded, HasNoHole, written_type, RawLiteral, Signature, Outermost, tuple, outermost_step, HasHead, IsOwnType, Given, let_types, CallsNonGeneric, Up, of_literal, of_written, of_initializer, of_parameter, of_call, of_unit}
 use Rattle.hir_types.specs.declared.ty.Ty.TheVariants as ty
 use Rattle.hir_types.specs.declared.ty.IntegerTy.TheVariants as integer
-use Rattle.hir_raw.specs.declared.raw.RawType.{RawType}
-use Rattle.hir_facts.specs.Filled.{filled_written, filled_folded}
-use Rattle.hir_facts.specs.Standing.{HasNoHole}
-use Rattle.hir_raw.specs.WrittenTypes.{written_type}
-use Rattle.hir_raw.specs.declared.raw.RawLiteral.{RawLiteral}
-use Rattle.hir_raw.specs.Signatures.{Signature}
-use Rattle.hir_raw.specs.declared.raw.RawLiteral.TheVariants as literal
-use Rattle.infer_result.specs.Heads.{Outermost, tuple, outermost_step, HasHead}
-use Rattle.infer_result.specs.Kinds.Literal.{IsOwnType}
-use Rattle.infer_result.specs.Places.{Given, let_types}
-use Rattle.infer_result.specs.Kinds.Call.{CallsNonGeneric}
-use Rattle.infer_result.specs.Upward.{Up, of_literal, of_written, of_initializer, of_parameter, of_call, of_unit}
-use Rattle.infer_ctx.specs.Tells.{Tells}
+use Rattle.infer_ctx.specs.Words.hir_raw.declared.raw.RawLiteral.TheVariants as literal
+use Rattle.infer_ctx.specs.Own.{Tells}
 
 -- ---- heads stay where holes and parameters are replaced
 layer_head : (r : Replacement) (x : Ty-F GenericArg Ty AliasBound TraitRef) (h : Outermost) → outermost_step x ≡ Some h → outermost_step (out-Ty (ty_layer r (in_ty (replacing r) x))) ≡ Some h

@@ -1,15 +1,9 @@
 -- Types of the carried kinds.
 use Rattle.std.proofs.Common.{refl, sym, ◌∙◌, List, [], subst, Some, None}
-use Rattle.hir_types.specs.declared.ty.Ty.{Ty}
-use Rattle.hir_types.specs.Types.{unit}
+use Rattle.infer_ctx.specs.Words.{Ty, unit, IsCarriedType, carried_bare, AreCarriedTypes, carried_tuple, carried_bool, carried_char, carried_integer, RawLiteral, InferenceResult, AllTypes, IsClosedTable, IsLiteralType}
 use Rattle.hir_types.specs.declared.ty.Ty.TheVariants as ty
-use Rattle.hir_facts.specs.CarriedTypes.{IsCarriedType, carried_bare, AreCarriedTypes, carried_tuple, carried_bool, carried_char, carried_integer}
-use Rattle.hir_raw.specs.declared.raw.RawLiteral.{RawLiteral}
-use Rattle.hir_raw.specs.declared.raw.RawLiteral.TheVariants as literal
-use Rattle.infer_result.specs.declared.result.InferenceResult.{InferenceResult}
-use Rattle.infer_result.specs.Closed.{AllTypes, IsClosedTable}
-use Rattle.infer_result.specs.Kinds.Literal.{IsLiteralType}
-use Rattle.infer_ctx.specs.Walks.{IsCarriedTable}
+use Rattle.infer_ctx.specs.Words.hir_raw.declared.raw.RawLiteral.TheVariants as literal
+use Rattle.infer_ctx.specs.Own.{IsCarriedTable}
 
 -- ---- tables
 

@@ -2,33 +2,12 @@
 use Rattle.std.proofs.Common.{ℕ, zero, suc, ◌≡◌, refl, sym, ap, ◌∙◌, List, [], ◌∷◌, map, length, Option, Some, None, option_map, slice_get, slice_set, ◌⊎◌, inl, inr, Bool, true, false, ◌++◌, ◌+◌, take, subst}
 use Rattle.std.proofs.lemmas.List.{length-map, map-set, length-set, map-append}
 use Rattle.std.proofs.lemmas.Option.{slice_get-map}
-use Rattle.hir_types.specs.Subst.{Assignment, folded}
-use Rattle.hir_types.specs.declared.ids.BindingId.{BindingId}
-use Rattle.hir_types.specs.declared.ids.ExprId.{ExprId}
-use Rattle.hir_types.specs.declared.ids.PatId.{PatId}
-use Rattle.hir_types.specs.declared.ty.Ty.{Ty}
-use Rattle.hir_types.specs.Terms.{terms_of, Term}
-use Rattle.hir_types.specs.declared.head.Hole.{Hole}
-use Rattle.hir_types.proofs.Equal.{ty_decides}
-use Rattle.hir_raw.specs.declared.raw.RawBody.{RawBody}
-use Rattle.hir_raw.specs.Scope.{Scope}
-use Rattle.infer_table.specs.Table.{bindings, State, Meets, Grew}
-use Rattle.infer_table.specs.LogLemmas.{solves_left}
-use Rattle.infer_table.specs.Solutions.{Log, Solves, entry, log_of}
-use Rattle.infer_table.specs.Waiting.{Waiting, waiting}
-use Rattle.infer_result.specs.Table.{At}
-use Rattle.infer_result.specs.declared.result.TypeMismatch.{TypeMismatch}
-use Rattle.infer_result.specs.declared.result.InferenceResult.{InferenceResult}
-use Rattle.infer_result.specs.Closed.{IsOfBody, AllTypes, AllSeen}
-use Rattle.infer_result.specs.declared.modes.BindingMode.{BindingMode}
-use Rattle.infer_result.specs.declared.result.Seen.{Seen}
-use Rattle.infer_result.specs.declared.diagnostics.InferenceDiagnostic.{InferenceDiagnostic}
+use Rattle.infer_ctx.specs.Words.{Assignment, folded, BindingId, ExprId, PatId, Ty, terms_of, Term, Hole, RawBody, Scope, bindings, State, Meets, Grew, solves_left, Log, Solves, entry, Waiting, waiting, At, TypeMismatch, InferenceResult, IsOfBody, AllTypes, AllSeen, BindingMode, Seen, InferenceDiagnostic}
+use Rattle.infer_ctx.proofs.Words.{ty_decides}
+use Rattle.infer_ctx.specs.Words.infer_table.Solutions.{log_of}
 use Rattle.infer_result.specs.declared.modes.BindingMode.TheVariants as mode
 use Rattle.infer_result.specs.declared.diagnostics.InferenceDiagnostic.TheVariants as diagnostic
-use Rattle.infer_ctx.specs.Walks.{IsFree}
-use Rattle.infer_ctx.specs.Closings.{closed_mismatch, closed_mismatches, same_types, unless_same, asked_or_noted, entry_of, first_asked, others_asked, closed_table, found_under, Closes, IsDecided, AskedIsKept, IsSound}
-use Rattle.infer_ctx.specs.declared.context.InferenceContext.{InferenceContext}
-use Rattle.infer_ctx.specs.Fine.{IsFine}
+use Rattle.infer_ctx.specs.Own.{IsFree, closed_mismatch, closed_mismatches, same_types, unless_same, asked_or_noted, entry_of, first_asked, others_asked, closed_table, found_under, Closes, IsDecided, AskedIsKept, IsSound, InferenceContext, IsFine}
 use Rattle.infer_ctx.specs.Found as found
 use Rattle.infer_ctx.specs.Context as context
 use Rattle.infer_ctx.proofs.Lists.{take_next, length-noted, noted-cases, put-cases}

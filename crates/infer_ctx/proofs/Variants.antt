@@ -1,20 +1,11 @@
 -- The constructors that a body names, and what is recorded of them.
 use Rattle.std.proofs.Common.{ℕ, zero, suc, ◌≡◌, refl, List, [], ◌∷◌, map, Some, slice_get, ap, inl, inr, ◌∙◌, sym, subst, option_map}
 use Rattle.std.proofs.lemmas.Option.{slice_get-map}
-use Rattle.hir_types.specs.declared.ids.VariantId.{VariantId}
-use Rattle.hir_types.specs.declared.ids.PatId.{PatId}
-use Rattle.hir_types.specs.declared.ids.ExprId.{ExprId}
-use Rattle.hir_raw.specs.declared.raw.RawPath.{RawPath}
-use Rattle.hir_raw.specs.declared.raw.RawExpr.{RawExpr}
-use Rattle.hir_raw.specs.declared.raw.RawPat.{RawPat}
-use Rattle.hir_raw.specs.declared.raw.RawBody.{RawBody}
-use Rattle.hir_raw.specs.declared.raw.RawPath.TheVariants as path
-use Rattle.hir_raw.specs.declared.raw.RawExpr.TheVariants as expr
-use Rattle.hir_raw.specs.declared.raw.RawPat.TheVariants as pat
-use Rattle.infer_result.specs.Closed.{IsVariantPat, NamesVariant, OnlyNamedVariants}
-use Rattle.infer_result.specs.declared.result.InferenceResult.{InferenceResult}
-use Rattle.infer_result.specs.Table.{ExprVariant, PatVariant}
-use Rattle.infer_ctx.specs.Found.{path_variant, expr_variant, pat_variant, RecordsVariants}
+use Rattle.infer_ctx.specs.Words.{VariantId, PatId, ExprId, RawPath, RawExpr, RawPat, RawBody, IsVariantPat, NamesVariant, OnlyNamedVariants, InferenceResult, ExprVariant, PatVariant}
+use Rattle.infer_ctx.specs.Words.hir_raw.declared.raw.RawPath.TheVariants as path
+use Rattle.infer_ctx.specs.Words.hir_raw.declared.raw.RawExpr.TheVariants as expr
+use Rattle.infer_ctx.specs.Words.hir_raw.declared.raw.RawPat.TheVariants as pat
+use Rattle.infer_ctx.specs.Own.{path_variant, expr_variant, pat_variant, RecordsVariants}
 
 -- what is made of the entry at n
 entry_of : {A B : Type 0} (f : A → B) (xs : List A) (n : ℕ) (y : B) → slice_get (map f xs) n ≡ Some y → (x : A) × (slice_get xs n ≡ Some x) × (f x ≡ y)

@@ -2,27 +2,11 @@
 use Rattle.std.proofs.Common.{ℕ, zero, suc, ◌<◌, ◌≡◌, arith, IsTrue, refl, sym, ap, subst, ◌∙◌, true≢false, List, [], ◌∷◌, map, Option, Some, slice_get, Bool}
 use Rattle.std.proofs.lemmas.Bool.{lt-ltb}
 use Rattle.std.proofs.lemmas.List.{length-map}
-use Rattle.hir_types.specs.declared.ids.TypeRefId.{TypeRefId}
-use Rattle.hir_types.specs.declared.ty.GenericArg.{GenericArg}
-use Rattle.hir_types.specs.declared.ty.Ty.{Ty}
-use Rattle.hir_types.specs.Folds.{map_twice}
+use Rattle.infer_ctx.specs.Words.{TypeRefId, GenericArg, Ty, map_twice, RawFacts, RawType, written_carried, carried_param, IsLawful, masked, Scope, adt_params, has_params, type_parts, written_type, filled_by, filled_within, filled_type, StandsIn, is_itself, in_part, filled_written, HasNoHole, is_carried_written_type, AllFit, FitsHere, written_fit, masked_fit, FitsThere, FitsUnder, OwnFits, State, new_state}
 use Rattle.hir_types.specs.declared.ty.GenericArg.TheVariants as arg
 use Rattle.hir_types.specs.declared.ty.Ty.TheVariants as ty
-use Rattle.hir_raw.specs.declared.raw.RawFacts.{RawFacts}
-use Rattle.hir_raw.specs.declared.raw.RawType.{RawType}
-use Rattle.hir_facts.specs.CarriedTypes.{written_carried, carried_param}
-use Rattle.hir_facts.specs.Lawful.{IsLawful}
-use Rattle.hir_raw.specs.Lets.{masked}
-use Rattle.hir_raw.specs.Scope.{Scope, adt_params, has_params}
-use Rattle.hir_raw.specs.WrittenTypes.{type_parts, written_type, filled_by, filled_within, filled_type, StandsIn, is_itself, in_part}
-use Rattle.hir_facts.specs.Filled.{filled_written}
-use Rattle.hir_facts.specs.Standing.{HasNoHole}
-use Rattle.hir_facts.specs.Carried.{is_carried_written_type}
-use Rattle.hir_facts.specs.LetFits.{AllFit, FitsHere, written_fit, masked_fit}
-use Rattle.hir_facts.specs.WrittenFits.{FitsThere, FitsUnder, OwnFits}
-use Rattle.hir_raw.specs.declared.raw.RawType.TheVariants as type
-use Rattle.infer_table.specs.Table.{State, new_state}
-use Rattle.infer_ctx.specs.Fine.{HasFineHeads, IsFine, IsWritten, AllFine}
+use Rattle.infer_ctx.specs.Words.hir_raw.declared.raw.RawType.TheVariants as type
+use Rattle.infer_ctx.specs.Own.{HasFineHeads, IsFine, IsWritten, AllFine}
 use Rattle.infer_ctx.proofs.FineTypes.{heads_param, fine_bool, fine_char, fine_integer, fine_tuple, fine_adt}
 use Rattle.infer_ctx.proofs.OverTypes.{carried_fine}
 

@@ -1,15 +1,7 @@
 -- What the walk keeps of the goals that nodes need: each is asked where its node has its type, once, and no other.
 use Rattle.std.specs.Prelude.{◌≡◌, ◌==◌, ℕ, true, List, [], ◌∷◌, flat_map, slice_get, Option, Some, None, if◌then◌else◌}
-use Rattle.hir_types.specs.declared.ids.ExprOrPatId.{ExprOrPatId}
+use Rattle.infer_ctx.specs.Words.{ExprOrPatId, RawBody, RawFacts, Scope, Shape, Asked, system, asked_goal, ItemSources, IsSystemOf, HasHeadsIfConcrete, SystemHasHeadsOf, Obligation, GoalTree, AreKept, HasAllOpen, AreCounted, needs_at, Given}
 use Rattle.hir_types.specs.declared.ids.ExprOrPatId.TheVariants as node
-use Rattle.hir_raw.specs.declared.raw.RawBody.{RawBody}
-use Rattle.hir_raw.specs.declared.raw.RawFacts.{RawFacts}
-use Rattle.hir_raw.specs.Scope.{Scope}
-use Rattle.infer_table.specs.Preserved.{Shape}
-use Rattle.infer_goals.specs.Below.{Asked, system, asked_goal, ItemSources, IsSystemOf, HasHeadsIfConcrete, SystemHasHeadsOf, Obligation, GoalTree}
-use Rattle.infer_goals.specs.Obligations.{AreKept, HasAllOpen, AreCounted}
-use Rattle.infer_result.specs.Needs.{needs_at}
-use Rattle.infer_result.specs.Places.{Given}
 use Rattle.infer_ctx.specs.declared.context.InferenceContext.{InferenceContext}
 use Rattle.infer_ctx.specs.Fine.{is_fine_head}
 use Rattle.infer_ctx.specs.Tells.{TellsRecorded}

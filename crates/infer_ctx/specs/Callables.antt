@@ -1,21 +1,8 @@
 -- What a callable item takes and gives.
 use Rattle.std.specs.Prelude.{ℕ, List, ◌≡◌, map, length, Some, Option, None, take}
-use Rattle.hir_types.specs.declared.ids.TypeRefId.{TypeRefId}
-use Rattle.hir_types.specs.declared.ty.GenericArg.{GenericArg}
-use Rattle.hir_types.specs.declared.ty.Ty.{Ty}
-use Rattle.hir_types.specs.Assigned.{with_params}
-use Rattle.hir_types.specs.Subst.{replaced}
-use Rattle.hir_types.specs.declared.ids.CallableDefId.{CallableDefId}
+use Rattle.infer_ctx.specs.Words.{TypeRefId, GenericArg, Ty, with_params, replaced, CallableDefId, VariantId, RawType, written_type, RawField, RawFn, RawVariant, RawFacts, Signature, fn_types, variant_types, signature_of, type_args, at_args}
 use Rattle.hir_types.specs.declared.ids.CallableDefId.TheVariants as callable
-use Rattle.hir_types.specs.declared.ids.VariantId.{VariantId}
 use Rattle.hir_types.specs.declared.ty.Ty.TheVariants as ty
-use Rattle.hir_raw.specs.declared.raw.RawType.{RawType}
-use Rattle.hir_raw.specs.WrittenTypes.{written_type}
-use Rattle.hir_raw.specs.declared.raw.RawField.{RawField}
-use Rattle.hir_raw.specs.declared.raw.RawFn.{RawFn}
-use Rattle.hir_raw.specs.declared.raw.RawVariant.{RawVariant}
-use Rattle.hir_raw.specs.declared.raw.RawFacts.{RawFacts}
-use Rattle.hir_raw.specs.Signatures.{Signature, fn_types, variant_types, signature_of, type_args, at_args}
 use Rattle.infer_ctx.specs.declared.given.CallableSig.{CallableSig}
 
 -- what the written type stands for, with these arguments in the place of parameters

@@ -1,22 +1,8 @@
 -- What a context comes to under an assignment of closed types to its holes.
 use Rattle.std.specs.Prelude.{◌≡◌, ℕ, List, map, Option, option_map, Bool, true, false, Some, None, [], ◌∷◌, slice_get, ◌⊎◌}
-use Rattle.hir_types.specs.declared.ty.IntegerTy.{IntegerTy}
-use Rattle.hir_types.specs.Subst.{Assignment, folded}
-use Rattle.hir_types.specs.Types.{integer_type}
-use Rattle.hir_types.specs.Terms.{terms_of}
-use Rattle.hir_types.specs.declared.ty.Ty.{Ty}
+use Rattle.infer_ctx.specs.Words.{IntegerTy, Assignment, folded, integer_type, terms_of, Ty, IsCarriedType, Scope, Meets, State, bindings, WaitingPair, waiting, BindsOnly, TypeMismatch, mismatch, At, InferenceResult, AllTypes, AllSeen}
 use Rattle.hir_types.specs.contracts.ty.TyPartialEq.TheImpl as same
-use Rattle.hir_facts.specs.CarriedTypes.{IsCarriedType}
-use Rattle.hir_raw.specs.Scope.{Scope}
-use Rattle.infer_table.specs.Table.{Meets, State, bindings}
-use Rattle.infer_table.specs.declared.waiting.WaitingPair.{WaitingPair}
-use Rattle.infer_table.specs.Waiting.{waiting}
-use Rattle.infer_table.specs.Solutions.{log_of}
-use Rattle.infer_table.specs.Preserved.{BindsOnly}
-use Rattle.infer_result.specs.declared.result.TypeMismatch.{TypeMismatch}
-use Rattle.infer_result.specs.Table.{mismatch, At}
-use Rattle.infer_result.specs.declared.result.InferenceResult.{InferenceResult}
-use Rattle.infer_result.specs.Closed.{AllTypes, AllSeen}
+use Rattle.infer_ctx.specs.Words.infer_table.Solutions.{log_of}
 use Rattle.infer_ctx.specs.declared.context.InferenceContext.{InferenceContext}
 use Rattle.infer_ctx.specs.Said.{said}
 use Rattle.infer_ctx.specs.Found.{Found}

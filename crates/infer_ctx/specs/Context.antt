@@ -1,26 +1,7 @@
 -- What the walk reads, what it expects, and what a write does.
 use Rattle.std.specs.Prelude.{Option, Some, None, ℕ, slice_get, ◌≡◌, ◌⊎◌, [], length, replicate, ◌+◌, ◌++◌, ◌∷◌}
-use Rattle.hir_types.specs.declared.ty.Ty.{Ty, Ty-F, out-Ty}
-use Rattle.hir_types.specs.declared.ty.AliasBound.{AliasBound}
-use Rattle.hir_types.specs.declared.ty.GenericArg.{GenericArg}
-use Rattle.hir_types.specs.declared.ty.TraitRef.{TraitRef}
-use Rattle.hir_types.specs.declared.ids.ExprId.{ExprId}
-use Rattle.hir_types.specs.declared.ids.PatId.{PatId}
-use Rattle.hir_types.specs.declared.ids.BindingId.{BindingId}
+use Rattle.infer_ctx.specs.Words.{Ty, Ty-F, out-Ty, AliasBound, GenericArg, TraitRef, ExprId, PatId, BindingId, scope_of, Scope, Schedule, IsCarriedType, RawBody, State, with_waiting, resolved_type, GoalTable, Given, TypeMismatch, mismatch, General, InferenceDiagnostic, BindingMode, Seen}
 use Rattle.hir_types.specs.declared.ids.ExprOrPatId.TheVariants as node
-use Rattle.hir_raw.specs.Scope.{scope_of, Scope}
-use Rattle.hir_raw.specs.declared.schedule.Schedule.{Schedule}
-use Rattle.hir_facts.specs.CarriedTypes.{IsCarriedType}
-use Rattle.hir_raw.specs.declared.raw.RawBody.{RawBody}
-use Rattle.infer_table.specs.Table.{State, with_waiting, resolved_type}
-use Rattle.infer_goals.specs.declared.table.GoalTable.{GoalTable}
-use Rattle.infer_result.specs.Places.{Given}
-use Rattle.infer_result.specs.declared.result.TypeMismatch.{TypeMismatch}
-use Rattle.infer_result.specs.Table.{mismatch}
-use Rattle.infer_result.specs.declared.result.General.{General}
-use Rattle.infer_result.specs.declared.diagnostics.InferenceDiagnostic.{InferenceDiagnostic}
-use Rattle.infer_result.specs.declared.modes.BindingMode.{BindingMode}
-use Rattle.infer_result.specs.declared.result.Seen.{Seen}
 use Rattle.infer_result.specs.declared.modes.BindingMode.TheVariants as mode
 use Rattle.infer_ctx.specs.declared.given.GivenBody.{GivenBody}
 use Rattle.infer_ctx.specs.declared.expectation.Expectation.{Expectation}

@@ -1,20 +1,7 @@
 -- Types that the walk may have in hand, and what is sound to have found out.
 use Rattle.std.specs.Prelude.{ℕ, Option, option_map, ◌==◌, ◌&&◌, nat_lt, true, false, Some, None, List, [], ◌∷◌, ◌<◌, length}
-use Rattle.hir_types.specs.declared.ids.CallableDefId.{CallableDefId}
-use Rattle.hir_types.specs.declared.ty.Ty.{Ty}
-use Rattle.hir_types.specs.Terms.{term}
-use Rattle.hir_types.specs.declared.ids.TypeRefId.{TypeRefId}
+use Rattle.infer_ctx.specs.Words.{CallableDefId, Ty, term, TypeRefId, RawFacts, signature_of, Scope, adt_params, alias_params, has_params, IsCarriedType, written_type, Shape, whole, IsMadeOf, State, HolesAreOf, WaitingPair, TypeMismatch, At}
 use Rattle.hir_types.specs.declared.head.Head.TheVariants as head
-use Rattle.hir_raw.specs.declared.raw.RawFacts.{RawFacts}
-use Rattle.hir_raw.specs.Signatures.{signature_of}
-use Rattle.hir_raw.specs.Scope.{Scope, adt_params, alias_params, has_params}
-use Rattle.hir_facts.specs.CarriedTypes.{IsCarriedType}
-use Rattle.hir_raw.specs.WrittenTypes.{written_type}
-use Rattle.infer_table.specs.Preserved.{Shape, whole, IsMadeOf}
-use Rattle.infer_table.specs.Table.{State, HolesAreOf}
-use Rattle.infer_table.specs.declared.waiting.WaitingPair.{WaitingPair}
-use Rattle.infer_result.specs.declared.result.TypeMismatch.{TypeMismatch}
-use Rattle.infer_result.specs.Table.{At}
 
 -- how many parameters a function has, or a constructor that takes fields
 abbrev pub item_params : RawFacts → CallableDefId → Option ℕ

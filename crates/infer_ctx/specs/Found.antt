@@ -1,16 +1,6 @@
 -- What inference has found out of a body, holes closed.
 use Rattle.std.specs.Prelude.{ℕ, ◌≡◌, map, [], ◌+◌, ◌++◌, ◌∷◌}
-use Rattle.hir_types.specs.Subst.{Assignment}
-use Rattle.hir_types.specs.declared.ids.ExprId.{ExprId}
-use Rattle.hir_types.specs.declared.ty.Ty.{Ty}
-use Rattle.hir_types.specs.declared.ids.PatId.{PatId}
-use Rattle.hir_types.specs.declared.ids.BindingId.{BindingId}
-use Rattle.hir_raw.specs.declared.raw.RawBody.{RawBody}
-use Rattle.infer_result.specs.declared.result.InferenceResult.{InferenceResult}
-use Rattle.infer_result.specs.declared.result.TypeMismatch.{TypeMismatch}
-use Rattle.infer_result.specs.declared.diagnostics.InferenceDiagnostic.{InferenceDiagnostic}
-use Rattle.infer_result.specs.declared.modes.BindingMode.{BindingMode}
-use Rattle.infer_result.specs.declared.result.Seen.{Seen}
+use Rattle.infer_ctx.specs.Words.{Assignment, ExprId, Ty, PatId, BindingId, RawBody, InferenceResult, TypeMismatch, InferenceDiagnostic, BindingMode, Seen}
 use Rattle.infer_result.specs.declared.modes.BindingMode.TheVariants as mode
 pub use Rattle.infer_ctx.specs.Writes.{path_variant, expr_variant, pat_variant, noted_where, noted, put}
 use Rattle.infer_ctx.specs.Writes as writes

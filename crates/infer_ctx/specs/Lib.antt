@@ -10,4 +10,5 @@ pub mod Asked
 pub mod Under
 pub mod Steps
 pub mod Callables
-pub mod Below
+pub mod Words
+pub mod Own

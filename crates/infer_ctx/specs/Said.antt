@@ -1,13 +1,7 @@
 -- What is said of look-ups that failed.
 use Rattle.std.specs.Prelude.{Bool, true, false, List, slice_set, Option, Some, [], ◌∷◌}
-use Rattle.hir_types.specs.declared.ids.ExprId.{ExprId}
-use Rattle.hir_types.specs.declared.ty.Ty.{Ty}
-use Rattle.hir_types.specs.declared.ids.ExprOrPatId.{ExprOrPatId}
-use Rattle.hir_types.specs.Subst.{Assignment, folded}
+use Rattle.infer_ctx.specs.Words.{ExprId, Ty, ExprOrPatId, Assignment, folded, InferenceDiagnostic, has_unknown, Seen}
 use Rattle.hir_types.specs.declared.ids.ExprOrPatId.TheVariants as node
-use Rattle.infer_result.specs.declared.diagnostics.InferenceDiagnostic.{InferenceDiagnostic}
-use Rattle.infer_result.specs.Unknown.{has_unknown}
-use Rattle.infer_result.specs.declared.result.Seen.{Seen}
 use Rattle.infer_result.specs.declared.diagnostics.InferenceDiagnostic.TheVariants as diagnostic
 
 -- that what the call e calls has the type t and is no function, unless `{unknown}` stands in t

@@ -1,16 +1,6 @@
 -- What each function of the walk is given, and what it does.
 use Rattle.std.specs.Prelude.{◌≤◌, ◌<◌, ◌≡◌, length, Option, Some, None, ◌+◌, ℕ, List, slice_get}
-use Rattle.hir_types.specs.Subst.{Assignment, folded}
-use Rattle.hir_types.specs.declared.ids.ExprId.{ExprId}
-use Rattle.hir_types.specs.declared.ty.Ty.{Ty}
-use Rattle.hir_raw.specs.declared.schedule.Schedule.{Schedule}
-use Rattle.hir_raw.specs.Scope.{Scope}
-use Rattle.infer_table.specs.Table.{Grew}
-use Rattle.infer_goals.specs.Stays.{StaysButHoles}
-use Rattle.infer_result.specs.Closed.{IsOfBody}
-use Rattle.infer_result.specs.Places.{Given}
-use Rattle.infer_result.specs.Made.{IsMade}
-use Rattle.infer_result.specs.Table.{MismatchAt}
+use Rattle.infer_ctx.specs.Words.{Assignment, folded, ExprId, Ty, Schedule, Scope, Grew, StaysButHoles, IsOfBody, Given, IsMade, MismatchAt}
 use Rattle.infer_ctx.specs.declared.context.InferenceContext.{InferenceContext}
 use Rattle.infer_ctx.specs.Found.{Found}
 use Rattle.infer_ctx.specs.Walks.{IsWalked, expr_start, IsFree}

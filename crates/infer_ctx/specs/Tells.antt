@@ -1,19 +1,8 @@
 -- What a type in hand says of an expression that has a type, or an outermost part, by itself.
 use Rattle.std.specs.Prelude.{◌≡◌, slice_get, Some, ℕ, Option, None}
-use Rattle.hir_types.specs.declared.ids.ExprId.{ExprId}
-use Rattle.hir_types.specs.declared.ty.Ty.{Ty}
-use Rattle.hir_types.specs.declared.ids.BindingId.{BindingId}
-use Rattle.hir_types.specs.declared.ids.PatId.{PatId}
-use Rattle.hir_types.specs.declared.ids.TypeRefId.{TypeRefId}
-use Rattle.hir_raw.specs.Order.{Binds}
-use Rattle.hir_raw.specs.WrittenTypes.{filled_type}
-use Rattle.hir_raw.specs.declared.raw.RawExpr.TheVariants as expr
-use Rattle.hir_raw.specs.declared.raw.RawPath.TheVariants as path
-use Rattle.infer_result.specs.Places.{Given, let_types}
-use Rattle.infer_result.specs.Upward.{Up}
-use Rattle.infer_result.specs.Heads.{Outermost, HasHead, HeadOf}
-use Rattle.infer_result.specs.declared.result.InferenceResult.{InferenceResult}
-use Rattle.infer_result.specs.Table.{BindingTy}
+use Rattle.infer_ctx.specs.Words.{ExprId, Ty, BindingId, PatId, TypeRefId, Binds, filled_type, Given, let_types, Up, Outermost, HasHead, HeadOf, InferenceResult, BindingTy}
+use Rattle.infer_ctx.specs.Words.hir_raw.declared.raw.RawExpr.TheVariants as expr
+use Rattle.infer_ctx.specs.Words.hir_raw.declared.raw.RawPath.TheVariants as path
 
 -- the type in hand is the one that the expression has by itself, or has its head
 pub record Tells (g : Given) (e : ExprId) (t : Ty) : Type 0 where

@@ -1,33 +1,11 @@
 -- What each function of the walk is given, and what it does, under one assignment of types to holes.
 use Rattle.std.specs.Prelude.{ℕ, ◌≡◌, slice_get, Some, ◌⊎◌, Option, ◌<◌, ◌^◌, List, [], length, None, ◌+◌}
-use Rattle.hir_types.specs.declared.ids.CallableDefId.{CallableDefId}
-use Rattle.hir_types.specs.declared.ty.Ty.{Ty}
-use Rattle.hir_types.specs.declared.ids.VariantId.{VariantId}
-use Rattle.hir_types.specs.declared.ids.ExprId.{ExprId}
-use Rattle.hir_types.specs.declared.ids.FunctionId.{FunctionId}
-use Rattle.hir_types.specs.declared.ids.PatId.{PatId}
-use Rattle.hir_types.specs.declared.ids.TypeRefId.{TypeRefId}
+use Rattle.infer_ctx.specs.Words.{CallableDefId, Ty, VariantId, ExprId, FunctionId, PatId, TypeRefId, RawFacts, callable_params, adt_params, variant_arity, types_scope, variant_aliases, Signature, signature_of, taken_types, RawVariant, FitsThere, stmt_at, end, the_body, Node, Part, IsNode, part_at, Fits, Schedule, IsWalkable, RawBody, IsCarriedType, NamesVariant, IsVariantPat, Given, IsAtOrMismatch, HasTy, recorded, InferenceResult, ObeysOrMismatch}
 use Rattle.hir_types.specs.declared.ids.CallableDefId.TheVariants as callable
-use Rattle.hir_raw.specs.declared.raw.RawFacts.{RawFacts}
-use Rattle.hir_raw.specs.Scope.{callable_params, adt_params, variant_arity, types_scope}
-use Rattle.hir_raw.specs.Hidden.{variant_aliases}
-use Rattle.hir_raw.specs.Signatures.{Signature, signature_of, taken_types}
-use Rattle.hir_raw.specs.declared.raw.RawVariant.{RawVariant}
-use Rattle.hir_facts.specs.WrittenFits.{FitsThere}
-use Rattle.hir_raw.specs.Order.{stmt_at, end, the_body, Node, Part, IsNode, part_at, Fits}
-use Rattle.hir_raw.specs.declared.schedule.Schedule.{Schedule}
-use Rattle.hir_facts.specs.Bodies.{IsWalkable}
-use Rattle.hir_raw.specs.declared.raw.RawBody.{RawBody}
-use Rattle.hir_facts.specs.CarriedTypes.{IsCarriedType}
-use Rattle.hir_raw.specs.declared.raw.RawCtor.TheVariants as ctor
-use Rattle.hir_raw.specs.declared.raw.RawExpr.TheVariants as expr
-use Rattle.hir_raw.specs.declared.raw.RawPath.TheVariants as path
-use Rattle.hir_raw.specs.declared.raw.RawStmt.TheVariants as stmt
-use Rattle.infer_result.specs.Closed.{NamesVariant, IsVariantPat}
-use Rattle.infer_result.specs.Places.{Given, IsAtOrMismatch}
-use Rattle.infer_result.specs.Table.{HasTy, recorded}
-use Rattle.infer_result.specs.declared.result.InferenceResult.{InferenceResult}
-use Rattle.infer_result.specs.Rules.{ObeysOrMismatch}
+use Rattle.infer_ctx.specs.Words.hir_raw.declared.raw.RawCtor.TheVariants as ctor
+use Rattle.infer_ctx.specs.Words.hir_raw.declared.raw.RawExpr.TheVariants as expr
+use Rattle.infer_ctx.specs.Words.hir_raw.declared.raw.RawPath.TheVariants as path
+use Rattle.infer_ctx.specs.Words.hir_raw.declared.raw.RawStmt.TheVariants as stmt
 use Rattle.infer_ctx.specs.Fine.{IsCarriedIn}
 use Rattle.infer_ctx.specs.Found.{Found}
 use Rattle.infer_ctx.specs.Context.{IsCarriedExpectation}

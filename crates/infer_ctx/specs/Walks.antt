@@ -1,32 +1,8 @@
 -- What every function of the walk does to what is found out, under one assignment of types to holes.
 use Rattle.std.specs.Prelude.{ℕ, ◌≡◌, List, slice_get, Option, Some, None, ◌⊎◌, ◌<◌, ◌≤◌, length}
-use Rattle.hir_types.specs.declared.ids.ExprId.{ExprId}
-use Rattle.hir_types.specs.declared.ids.PatId.{PatId}
-use Rattle.hir_types.specs.declared.ids.BindingId.{BindingId}
-use Rattle.hir_types.specs.declared.ids.VariantId.{VariantId}
-use Rattle.hir_types.specs.declared.ty.Ty.{Ty}
-use Rattle.hir_types.specs.Subst.{folded}
+use Rattle.infer_ctx.specs.Words.{ExprId, PatId, BindingId, VariantId, Ty, folded, Schedule, RawBody, start, inner, end, Binds, IsCarriedType, InferenceResult, TypeMismatch, BindingMode, InferenceDiagnostic, At, HasTy, PatTy, PatItem, BindingTy, PlaceholderTy, HasMode, ExprVariant, PatVariant, WasSeen, AllTypes, IsOfBody, OnlyBindersHaveModes, OnlyCtorPatsHaveItems, Seen, Given, OnlyPlaceholdersHaveTypes, Demand, IsTrueSeen, IsSaid, IsTrueDiagnostic, IsTruePatDiagnostic, ObeysOrMismatch, PatRule, IsTruePatMismatch, IsMisfit}
 use Rattle.hir_types.specs.declared.ids.ExprOrPatId.TheVariants as node
-use Rattle.hir_raw.specs.declared.schedule.Schedule.{Schedule}
-use Rattle.hir_raw.specs.declared.raw.RawBody.{RawBody}
-use Rattle.hir_raw.specs.Order.{start, inner, end, Binds}
-use Rattle.hir_facts.specs.CarriedTypes.{IsCarriedType}
-use Rattle.hir_raw.specs.declared.raw.RawExpr.TheVariants as expr
-use Rattle.infer_result.specs.declared.result.InferenceResult.{InferenceResult}
-use Rattle.infer_result.specs.declared.result.TypeMismatch.{TypeMismatch}
-use Rattle.infer_result.specs.declared.modes.BindingMode.{BindingMode}
-use Rattle.infer_result.specs.declared.diagnostics.InferenceDiagnostic.{InferenceDiagnostic}
-use Rattle.infer_result.specs.Table.{At, HasTy, PatTy, PatItem, BindingTy, PlaceholderTy, HasMode, ExprVariant, PatVariant, WasSeen}
-use Rattle.infer_result.specs.Closed.{AllTypes, IsOfBody, OnlyBindersHaveModes, OnlyCtorPatsHaveItems}
-use Rattle.infer_result.specs.declared.result.Seen.{Seen}
-use Rattle.infer_result.specs.Places.{Given, OnlyPlaceholdersHaveTypes}
-use Rattle.infer_result.specs.Demands.{Demand}
-use Rattle.infer_result.specs.Truth.Seen.{IsTrueSeen}
-use Rattle.infer_result.specs.Kinds.Call.{IsSaid}
-use Rattle.infer_result.specs.Truth.Diagnostics.{IsTrueDiagnostic, IsTruePatDiagnostic}
-use Rattle.infer_result.specs.Rules.{ObeysOrMismatch, PatRule}
-use Rattle.infer_result.specs.Truth.Mismatch.{IsTruePatMismatch}
-use Rattle.infer_result.specs.Made.{IsMisfit}
+use Rattle.infer_ctx.specs.Words.hir_raw.declared.raw.RawExpr.TheVariants as expr
 use Rattle.infer_ctx.specs.Found.{Found, RecordsVariants}
 
 -- the numbers of an expression and of a pattern in the order of the walk

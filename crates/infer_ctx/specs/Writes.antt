@@ -1,21 +1,9 @@
 -- What is recorded in a table, write by write.
 use Rattle.std.specs.Prelude.{ℕ, zero, suc, List, [], ◌∷◌, length, map, replicate, slice_get, slice_set, Option, Some, None}
-use Rattle.hir_types.specs.declared.ids.ExprId.{ExprId}
-use Rattle.hir_types.specs.declared.ids.PatId.{PatId}
-use Rattle.hir_types.specs.declared.ids.BindingId.{BindingId}
-use Rattle.hir_types.specs.declared.ids.VariantId.{VariantId}
-use Rattle.hir_types.specs.declared.ty.Ty.{Ty}
-use Rattle.hir_raw.specs.declared.raw.RawPath.{RawPath}
-use Rattle.hir_raw.specs.declared.raw.RawPath.TheVariants as path
-use Rattle.hir_raw.specs.declared.raw.RawExpr.{RawExpr}
-use Rattle.hir_raw.specs.declared.raw.RawExpr.TheVariants as expr
-use Rattle.hir_raw.specs.declared.raw.RawPat.{RawPat}
-use Rattle.hir_raw.specs.declared.raw.RawPat.TheVariants as pat
-use Rattle.hir_raw.specs.declared.raw.RawBody.{RawBody}
-use Rattle.infer_result.specs.declared.modes.BindingMode.{BindingMode}
-use Rattle.infer_result.specs.declared.result.InferenceResult.{InferenceResult}
-use Rattle.infer_result.specs.declared.result.TypeMismatch.{TypeMismatch}
-use Rattle.infer_result.specs.declared.diagnostics.InferenceDiagnostic.{InferenceDiagnostic}
+use Rattle.infer_ctx.specs.Words.{ExprId, PatId, BindingId, VariantId, Ty, RawPath, RawExpr, RawPat, RawBody, BindingMode, InferenceResult, TypeMismatch, InferenceDiagnostic}
+use Rattle.infer_ctx.specs.Words.hir_raw.declared.raw.RawPath.TheVariants as path
+use Rattle.infer_ctx.specs.Words.hir_raw.declared.raw.RawExpr.TheVariants as expr
+use Rattle.infer_ctx.specs.Words.hir_raw.declared.raw.RawPat.TheVariants as pat
 
 -- the variant whose constructor is named
 abbrev pub path_variant : RawPath → Option VariantId

@@ -1,16 +1,14 @@
 //! What inference of a body has found out so far.
 ghost use Rattle.std.specs.Prelude.{◌≡◌, ◌<◌, ◌+◌, ◌^◌, ◌↔◌, IfOk, OnOk, IsTrue, None, length, map, replicate};
-ghost use Rattle.infer_table.specs.Table.{new_state};
-ghost use Rattle.infer_goals.specs.Stays.{IsUnused};
-ghost use Rattle.infer_ctx.specs.Found.{noted, put, path_variant, expr_variant, pat_variant};
-ghost use Rattle.infer_ctx.specs.Steps.{IsNoted, IsUnasked};
-ghost use Rattle.infer_ctx.specs.Context.{empty_context, with_placeholder_ty, with_seen, entered, with_expr_ty, with_mismatch, with_asked, with_diagnostic, with_pat_mismatch, with_pat_diagnostic, with_pat_ty, with_pat_item, with_mode, with_binding_ty};
+ghost use Rattle.infer_ctx.specs.Words.{new_state, IsUnused};
+ghost use Rattle.infer_ctx.specs.Own.{noted, put, path_variant, expr_variant, pat_variant, IsNoted, IsUnasked, empty_context, with_placeholder_ty, with_seen, with_expr_ty, with_mismatch, with_asked, with_diagnostic, with_pat_mismatch, with_pat_diagnostic, with_pat_ty, with_pat_item, with_mode, with_binding_ty};
+ghost use Rattle.infer_ctx.specs.Context.{entered};
 
-use hir_facts::{
+use infer_goals::GoalTable;
+use infer_goals::hir_facts::{
     BindingId, ExprId, Facts, GenericDefId, List, PatId, RawBody, RawExpr, RawPat, RawPath, Ty,
     TypeRefId, VariantId,
 };
-use infer_goals::GoalTable;
 use infer_result::{BindingMode, InferenceDiagnostic, InferenceResult, Seen, TypeMismatch};
 use std::alloc::{AllocError, Global};
 

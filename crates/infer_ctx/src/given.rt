@@ -1,22 +1,15 @@
 //! What inference of a body reads.
 ghost use Rattle.std.specs.Prelude.{ℕ, ◌≡◌, ◌<◌, ◌≤◌, IfOk, List, Some, take, length, map, option_copied, slice_get};
-ghost use Rattle.hir_raw.specs.WrittenTypes.{written_type};
-ghost use Rattle.hir_raw.specs.Hidden.{fn_aliases, opened};
-ghost use Rattle.hir_raw.specs.Scope.{adt_params};
-ghost use Rattle.hir_raw.specs.Signatures.{fn_types, variant_types};
-ghost use Rattle.hir_raw.specs.declared.raw.RawFn.{RawFn};
-ghost use Rattle.hir_raw.specs.declared.raw.RawVariant.{RawVariant};
+ghost use Rattle.infer_ctx.specs.Words.{written_type, fn_aliases, opened, adt_params, fn_types, variant_types, RawFn, RawVariant, recorded};
 ghost use Rattle.hir_types.specs.declared.ty.Ty.TheVariants as ty;
-ghost use Rattle.infer_result.specs.Table.{recorded};
-ghost use Rattle.infer_ctx.specs.Context.{expected_type};
-ghost use Rattle.infer_ctx.specs.Callables.{written_at, field_at, ctor_at, IsFnSig, IsCtorSig, IsCallableItem, IsSigOfItem, ItemsAreCallable, IsSigIfItem};
+ghost use Rattle.infer_ctx.specs.Own.{expected_type, written_at, field_at, ctor_at, IsFnSig, IsCtorSig, IsCallableItem, IsSigOfItem, ItemsAreCallable, IsSigIfItem};
 
 use crate::expectation::Expectation;
-use hir_facts::{
+use hir_types::{CallableDefId, GenericArg, instantiate};
+use infer_goals::hir_facts::{
     DefWithBodyId, Facts, FunctionId, List, RawBody, RawFn, Schedule, Ty, TypeRefId, VariantId,
     fn_aliases, lower_opened, lower_ty, variant_aliases,
 };
-use hir_types::{CallableDefId, GenericArg, instantiate};
 use std::alloc::{AllocError, Global};
 
 /// A body among its facts: what `infer.rs`'s `InferenceContext` reads of its `db`, its `owner`, its

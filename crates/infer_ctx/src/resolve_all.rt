@@ -1,18 +1,14 @@
 //! The table of a body whose types have no holes.
 ghost use Rattle.std.specs.Prelude.{◌≡◌, IfOk, OnOk, Some, option_map, map};
 ghost use Rattle.std.specs.Option.{option_copied};
-ghost use Rattle.hir_types.specs.Terms.{terms_of};
-ghost use Rattle.hir_types.specs.Subst.{folded};
-ghost use Rattle.infer_table.specs.Completion.{completion};
-ghost use Rattle.infer_table.specs.Solutions.{Respects, Triangular, log_of};
-ghost use Rattle.infer_table.specs.Table.{bindings, Meets};
-ghost use Rattle.infer_ctx.specs.Closings.{closed_types, closed_mismatch, closed_mismatches, closed_table, asked_or_noted, entry_of};
-ghost use Rattle.infer_ctx.specs.Said.{said, said_of};
+ghost use Rattle.infer_ctx.specs.Words.{terms_of, folded, completion, Respects, Triangular, bindings, Meets};
+ghost use Rattle.infer_ctx.specs.Words.infer_table.Solutions.{log_of};
+ghost use Rattle.infer_ctx.specs.Own.{closed_types, closed_mismatch, closed_mismatches, closed_table, asked_or_noted, entry_of, said, said_of};
 
 use crate::context::InferenceContext;
-use hir_facts::{ExprOrPatId, List, Ty};
+use infer_goals::hir_facts::{ExprOrPatId, List, Ty};
+use infer_goals::infer_table::InferenceTable;
 use infer_result::{InferenceDiagnostic, InferenceResult, Seen, TypeMismatch, references_error};
-use infer_table::InferenceTable;
 use std::alloc::{AllocError, Global};
 
 /// A type that may be recorded, resolved.

@@ -1,39 +1,8 @@
 -- The body of a definition of lawful facts, and the types of what the definition takes and gives.
 use Rattle.std.specs.Option.{option_and_then}
 use Rattle.std.proofs.Common.{◌≡◌, ap, ◌∙◌, refl, Option, Some, None, slice_get, ◌<◌, length, ℕ, inl, inr, List}
-use Rattle.hir_types.specs.declared.ids.BodyId.{BodyId}
-use Rattle.hir_types.specs.declared.ids.DefWithBodyId.{DefWithBodyId}
-use Rattle.hir_types.specs.declared.ids.VariantId.{VariantId}
-use Rattle.hir_types.specs.declared.ids.PatId.{PatId}
-use Rattle.hir_types.specs.declared.ty.Ty.{Ty}
-use Rattle.hir_types.specs.Terms.{term}
-use Rattle.goal_answers.specs.Reading.{IsRead}
-use Rattle.hir_raw.specs.declared.raw.RawBody.{RawBody}
-use Rattle.hir_raw.specs.declared.raw.RawFacts.{RawFacts}
-use Rattle.hir_facts.specs.Bodies.{body_id_of, body_of, IsWalkable}
-use Rattle.hir_raw.specs.declared.raw.RawVariant.{RawVariant}
-use Rattle.hir_facts.specs.Ids.{BodyIdsExist}
-use Rattle.hir_facts.specs.Existing.{function_exists, constructor_exists, constructor_pattern_exists, tuple_struct_exists}
-use Rattle.hir_raw.specs.Scope.{scope_of}
-use Rattle.hir_facts.specs.WrittenFits.{lets_fit}
-use Rattle.hir_facts.specs.LawfulFacts.{body_ids}
-use Rattle.hir_facts.proofs.Walkable.{inputs_count}
-use Rattle.hir_facts.specs.Lawful.{IsLawful}
-use Rattle.hir_raw.specs.declared.schedule.Schedule.{Schedule}
-use Rattle.infer_result.specs.Closed.{IsVariantPat, AllTypes}
-use Rattle.infer_result.specs.declared.result.InferenceResult.{InferenceResult}
-use Rattle.infer_result.specs.OwnTypes.{AreOwnTypes, AreLetTypes}
-use Rattle.infer_result.specs.Made.{IsMade}
-use Rattle.infer_result.proofs.Derived.{typed_by_schedule}
-use Rattle.infer_result.specs.TypesFit.{TypesFit, SeenFit}
-use Rattle.infer_result.specs.Typed.{IsTableOf, given_by}
-use Rattle.infer_ctx.specs.Under.{WrittenExist}
-use Rattle.infer_ctx.proofs.Lists.{found}
-use Rattle.infer_ctx.proofs.Items.{named_function, named_variant, item_with}
-use Rattle.infer_table.specs.Table.{State, new_state}
-use Rattle.infer_ctx.specs.Context.{IsCarriedExpectation}
-use Rattle.infer_ctx.specs.Fine.{IsFineExpectation}
-use Rattle.infer_ctx.proofs.OverTypes.{carried_fine}
+use Rattle.infer_end.specs.Words.{BodyId, DefWithBodyId, VariantId, PatId, Ty, term, IsRead, RawBody, RawFacts, body_id_of, body_of, IsWalkable, RawVariant, BodyIdsExist, function_exists, constructor_exists, constructor_pattern_exists, tuple_struct_exists, scope_of, lets_fit, body_ids, IsLawful, Schedule, IsVariantPat, AllTypes, InferenceResult, AreOwnTypes, AreLetTypes, IsMade, TypesFit, SeenFit, IsTableOf, given_by, WrittenExist, State, new_state, IsCarriedExpectation, IsFineExpectation}
+use Rattle.infer_end.proofs.Words.{inputs_count, typed_by_schedule, found, named_function, named_variant, item_with, carried_fine}
 use Rattle.infer_end.proofs.OwnIn.{alias_in, own_input_in, own_output_in, own_count}
 
 pub found_body : (raw : RawFacts) (d : DefWithBodyId) (i : BodyId) (b : RawBody) → body_id_of raw d ≡ Some i → slice_get raw.bodies i.0 ≡ Some b → body_of raw d ≡ Some b

@@ -2,38 +2,12 @@
 use Rattle.std.specs.List.{list_all}
 use Rattle.std.proofs.Common.{◌≡◌, ap, ◌∙◌, Bool, true, ◌&&◌, ℕ, refl, Option, Some, None, option_map, length, List, [], ◌∷◌, map, sym, subst, inl, inr}
 use Rattle.std.proofs.lemmas.List.{length-map}
-use Rattle.hir_types.specs.declared.ids.CallableDefId.{CallableDefId}
-use Rattle.hir_types.specs.declared.ty.Ty.{Ty}
-use Rattle.hir_types.specs.Replacements.{folded_twice, replaced_bool, replaced_char, replaced_int, replaced_uint, replaced_tuple, replaced_param, replaced_var, replaced_int_var, folded_itself}
-use Rattle.hir_types.specs.Subst.{Assignment, with_holes, folded, each_itself}
+use Rattle.infer_end.specs.Words.{CallableDefId, Ty, folded_twice, replaced_bool, replaced_char, replaced_int, replaced_uint, replaced_tuple, replaced_param, replaced_var, replaced_int_var, folded_itself, Assignment, with_holes, folded, each_itself, Hole, Term, hole, leaf, pair, apply, term, terms_of, term_error, term_int, term_folded, IsRead, has_params, callable_params, Scope, adt_params, alias_params, RawFacts, Signature, signature_of, type_args, ty_fits, arg_fits, ty_fits_bool, ty_fits_char, ty_fits_int, ty_fits_uint, ty_fits_tuple, ty_fits_adt, ty_fits_fndef, ty_fits_param, arg_fits_ty, ty_fits_var, ty_fits_intvar, ty_fits_error, ty_fits_associated, fallback, completion, resolution, made_of_resolved_term, bindings, resolved_type, TypeMismatch, AllTypes, AllSeen, is_fine_head, item_params, HasFineHeads, IsFine, Every, InferenceContext, closed_mismatch, closed_table, IsSound}
 use Rattle.hir_types.specs.declared.ty.Ty.TheVariants as ty
 use Rattle.hir_types.specs.declared.head.Hole.TheVariants as hole_of
 use Rattle.hir_types.specs.declared.ty.IntTy.TheVariants as int
-use Rattle.hir_types.specs.declared.head.Hole.{Hole}
-use Rattle.hir_types.specs.Terms.{Term, hole, leaf, pair, apply, term, terms_of}
-use Rattle.hir_types.specs.TermLaws.{term_error, term_int, term_folded}
-use Rattle.goal_answers.specs.Reading.{IsRead}
-use Rattle.hir_raw.specs.Scope.{has_params, callable_params, Scope, adt_params, alias_params}
-use Rattle.hir_raw.specs.declared.raw.RawFacts.{RawFacts}
-use Rattle.hir_raw.specs.Signatures.{Signature, signature_of, type_args}
-use Rattle.hir_raw.specs.Fit.{ty_fits, arg_fits}
-use Rattle.hir_raw.specs.Fitting.{ty_fits_bool, ty_fits_char, ty_fits_int, ty_fits_uint, ty_fits_tuple, ty_fits_adt, ty_fits_fndef, ty_fits_param, arg_fits_ty, ty_fits_var, ty_fits_intvar, ty_fits_error, ty_fits_associated}
-use Rattle.hir_types.specs.Fallback.{fallback}
-use Rattle.infer_table.specs.Completion.{completion}
-use Rattle.infer_table.specs.Resolution.{resolution}
-use Rattle.infer_table.specs.Preserved.{made_of_resolved_term}
-use Rattle.infer_table.specs.Table.{bindings, resolved_type}
-use Rattle.infer_result.specs.declared.result.TypeMismatch.{TypeMismatch}
-use Rattle.infer_result.specs.Closed.{AllTypes, AllSeen}
-use Rattle.infer_result.specs.declared.diagnostics.InferenceDiagnostic.TheVariants as diagnostic
-use Rattle.infer_ctx.specs.Fine.{is_fine_head, item_params, HasFineHeads, IsFine, Every}
-use Rattle.infer_ctx.specs.declared.context.InferenceContext.{InferenceContext}
-use Rattle.infer_ctx.specs.Closings.{closed_mismatch, closed_table, IsSound}
-use Rattle.infer_ctx.proofs.Items.{signature_count}
-use Rattle.infer_ctx.proofs.OverTypes.{over_fine, adt_closed, fn_def_closed, associated_closed}
-use Rattle.infer_ctx.proofs.UnderClosings.{At-unclosed, At-stems}
-use Rattle.infer_ctx.proofs.Said.{said-cases}
-use Rattle.infer_obligations.proofs.Below.{bound_heads}
+use Rattle.infer_end.specs.Words.infer_result.declared.diagnostics.InferenceDiagnostic.TheVariants as diagnostic
+use Rattle.infer_end.proofs.Words.{signature_count, over_fine, adt_closed, fn_def_closed, associated_closed, At-unclosed, At-stems, said-cases, bound_heads}
 use Rattle.infer_end.proofs.SizedTypes.{heads_are_read}
 use Rattle.std.specs.Cmp.{second_so}
 

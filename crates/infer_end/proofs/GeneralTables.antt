@@ -2,65 +2,12 @@
 use Rattle.std.proofs.Common.{inl, Option, slice_get, ℕ, List, suc, ◌≡◌, refl, ap, [], ◌∷◌, length, replicate, Some, None, sym, ◌∙◌, option_map, zero, ◌<◌, ◌⊎◌, inr, Bool, true, false, true≢false, subst, map}
 use Rattle.std.proofs.lemmas.Option.{slice_get-map, slice_get_within}
 use Rattle.std.proofs.lemmas.List.{length-map}
-use Rattle.hir_types.specs.declared.ty.Ty.{Ty}
-use Rattle.hir_types.specs.Replacements.{folded_twice}
-use Rattle.hir_types.specs.Subst.{Assignment, composed, folded}
-use Rattle.hir_types.specs.declared.ids.BodyId.{BodyId}
-use Rattle.hir_types.specs.declared.ids.ExprId.{ExprId}
-use Rattle.hir_types.specs.declared.ids.DefWithBodyId.{DefWithBodyId}
-use Rattle.hir_types.specs.declared.ids.ExprOrPatId.{ExprOrPatId}
+use Rattle.infer_end.specs.Words.{Ty, folded_twice, Assignment, composed, folded, BodyId, ExprId, DefWithBodyId, ExprOrPatId, terms_of, RawBody, RawFacts, Schedule, IsCarriedType, IsLawful, body_id_of, IsWalkable, ty_fits, Scope, scope_of, params_of, IsPlainBody, IsPlainBodyOf, are_direct_structs, bindings, State, resolved_type, Meets, resolution, completion, Respects, Triangular, Proof, Gap, General, InferenceResult, AllTypes, AllSeen, IsMade, AreOwnTypes, AreLetTypes, Given, IsAtMaybeOrMismatch, HasGap, with_goals, At, HasTy, types_under, IsGeneralType, AreGeneralTypes, GivesPlain, closed_by, IsGeneralOf, HasGeneral, TypeMismatch, Seen, HasNoComplaint, IsDerivation, fallback, IsTableOf, given_by, Extends, closed_types, closed_mismatch, closed_mismatches, same_types, unless_same, asked_or_noted, entry_of, Closes, AskedIsDecided, closed_table, InferenceContext, HasFineHeads, IsFine, IsCarriedIn, IsTold, BodyDone, with_general}
 use Rattle.hir_types.specs.declared.ids.ExprOrPatId.TheVariants as node
-use Rattle.hir_types.specs.Terms.{terms_of}
-use Rattle.hir_types.proofs.Equal.{ty_decides}
-use Rattle.hir_raw.specs.declared.raw.RawBody.{RawBody}
-use Rattle.hir_raw.specs.declared.raw.RawFacts.{RawFacts}
-use Rattle.hir_raw.specs.declared.schedule.Schedule.{Schedule}
-use Rattle.hir_facts.specs.CarriedTypes.{IsCarriedType}
-use Rattle.hir_facts.specs.Lawful.{IsLawful}
-use Rattle.hir_facts.specs.Bodies.{body_id_of, IsWalkable}
-use Rattle.hir_raw.specs.Fit.{ty_fits}
-use Rattle.hir_raw.specs.Scope.{Scope, scope_of, params_of}
-use Rattle.hir_facts.specs.Plain.{IsPlainBody, IsPlainBodyOf}
-use Rattle.hir_facts.specs.Sized.{are_direct_structs}
-use Rattle.infer_table.specs.Table.{bindings, State, resolved_type, Meets}
-use Rattle.infer_table.specs.Resolution.{resolution}
-use Rattle.infer_table.specs.Completion.{completion}
-use Rattle.infer_table.specs.Solutions.{Respects, Triangular, log_of}
-use Rattle.goal_facts.specs.declared.proof.Proof.{Proof}
-use Rattle.infer_result.specs.declared.gaps.Gap.{Gap}
-use Rattle.infer_result.specs.declared.result.General.{General}
-use Rattle.infer_result.specs.declared.result.InferenceResult.{InferenceResult}
-use Rattle.infer_result.specs.Closed.{AllTypes, AllSeen}
-use Rattle.infer_result.specs.Made.{IsMade}
-use Rattle.infer_result.specs.OwnTypes.{AreOwnTypes, AreLetTypes}
-use Rattle.infer_result.specs.Places.{Given, IsAtMaybeOrMismatch}
-use Rattle.infer_result.specs.Needs.{HasGap, with_goals}
-use Rattle.infer_result.specs.Table.{At, HasTy}
-use Rattle.infer_result.specs.General.{types_under, IsGeneralType, AreGeneralTypes, GivesPlain, closed_by, IsGeneralOf, HasGeneral}
-use Rattle.infer_result.specs.declared.result.TypeMismatch.{TypeMismatch}
-use Rattle.infer_result.specs.declared.result.Seen.{Seen}
-use Rattle.infer_result.specs.Derivation.{HasNoComplaint, IsDerivation}
-use Rattle.infer_result.proofs.DerivationLaws.{derivation_of}
-use Rattle.hir_types.specs.Fallback.{fallback}
-use Rattle.infer_result.specs.Typed.{IsTableOf, given_by}
-use Rattle.infer_result.proofs.Derived.{typed_by_schedule}
-use Rattle.infer_ctx.specs.Said.{said}
-use Rattle.infer_ctx.specs.Walks.{Extends}
-use Rattle.infer_ctx.specs.Closings.{closed_types, closed_mismatch, closed_mismatches, same_types, unless_same, asked_or_noted, entry_of, Closes, AskedIsDecided, closed_table}
-use Rattle.infer_ctx.specs.declared.context.InferenceContext.{InferenceContext}
-use Rattle.infer_ctx.specs.Fine.{HasFineHeads, IsFine, IsCarriedIn}
-use Rattle.infer_ctx.specs.Asked.{IsTold}
-use Rattle.infer_ctx.specs.Steps.{BodyDone}
-use Rattle.infer_ctx.proofs.Asked.{told_beside}
-use Rattle.infer_ctx.proofs.Keeps.{at_kept, pat_at_kept, obeys_kept, pat_kept, misfit_kept, demand_kept, diagnostic_kept, pat_truth_kept, true_seen_kept}
-use Rattle.infer_ctx.proofs.Lists.{found}
-use Rattle.infer_ctx.proofs.OverTypes.{fine_closed}
-use Rattle.infer_ctx.specs.Context.{with_general}
-use Rattle.infer_ctx.proofs.UnderClosings.{sound_with, At-unclosed, closed_at, asked_unlike, length-closed_mismatches, At-closed, length-closed}
-use Rattle.infer_obligations.proofs.Below.{completion_closes}
-use Rattle.infer_end.specs.SelectedBody.{OnlyGoals, StaysOfPlain}
-use Rattle.infer_end.specs.Ends.{EndsAs}
-use Rattle.infer_end.specs.KeptTypes.{AreResolved, HoldsResolved, KeepsGeneral, IsFull, HasAllTypes}
+use Rattle.infer_end.proofs.Words.{ty_decides, derivation_of, typed_by_schedule, told_beside, at_kept, pat_at_kept, obeys_kept, pat_kept, misfit_kept, demand_kept, diagnostic_kept, pat_truth_kept, true_seen_kept, found, fine_closed, sound_with, At-unclosed, closed_at, asked_unlike, length-closed_mismatches, At-closed, length-closed, completion_closes}
+use Rattle.infer_end.specs.Words.infer_table.Solutions.{log_of}
+use Rattle.infer_end.specs.Words.infer_ctx.Said.{said}
+use Rattle.infer_end.specs.Own.{OnlyGoals, StaysOfPlain, EndsAs, AreResolved, HoldsResolved, KeepsGeneral, IsFull, HasAllTypes}
 use Rattle.infer_end.proofs.Definitions.{found_body, table_of}
 use Rattle.infer_end.proofs.OwnIn.{plain_names_none}
 use Rattle.infer_end.proofs.Fits.{completed_table_fits, completed_table_read, fine_fits, seen_fits}

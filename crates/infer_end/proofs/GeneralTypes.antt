@@ -3,29 +3,14 @@ use Rattle.std.specs.List.{list_all, list_any}
 use Rattle.std.proofs.Common.{ℕ, suc, ◌≡◌, refl, List, [], ◌∷◌, Some, slice_get, ap, ◌∙◌, Bool, true, ◌&&◌, sym, subst, false, ◌||◌, map, length, true≢false}
 use Rattle.std.proofs.lemmas.Bool.{ltb-true, lt-ltb}
 use Rattle.std.proofs.lemmas.List.{length-map}
-use Rattle.hir_types.specs.declared.ty.Ty.{Ty}
-use Rattle.hir_types.specs.Subst.{Assignment, with_holes, each_itself, composed, folded}
-use Rattle.hir_types.specs.Replacements.{replaced_bool, replaced_char, replaced_int, replaced_uint, replaced_var, replaced_int_var, replaced_tuple, replaced_param}
+use Rattle.infer_end.specs.Words.{Ty, Assignment, with_holes, each_itself, composed, folded, replaced_bool, replaced_char, replaced_int, replaced_uint, replaced_var, replaced_int_var, replaced_tuple, replaced_param, is_carried_type, IsCarriedType, carried_bool, carried_char, carried_integer, carried_tuple, carried_adt, carried_param, Scope, has_params, adt_params, alias_params, type_args, IsPlainIn, plain_bool, plain_char, plain_integer, plain_tuple, plain_adt, plain_param, resolution, Triangular, bindings, IsGeneralType, AreGeneralTypes, general_hole, general_integer_hole, general_bool, general_char, general_integer, general_tuple, general_adt, general_item, general_param, GivesPlain, has_unknown, arg_has_unknown, has_unknown_bool, has_unknown_char, has_unknown_int, has_unknown_uint, has_unknown_var, has_unknown_int_var, has_unknown_tuple, has_unknown_adt, has_unknown_fn_def, has_unknown_param, arg_has_unknown_type, has_unknown_associated, InferenceContext, IsClosing, Closes, IsSound, item_params, HasFineHeads, Every}
 use Rattle.hir_types.specs.declared.ty.IntegerTy.TheVariants as integer
 use Rattle.hir_types.specs.declared.ty.Ty.TheVariants as ty
 use Rattle.hir_types.specs.declared.head.Hole.TheVariants as hole_of
-use Rattle.hir_facts.specs.CarriedTypes.{is_carried_type, IsCarriedType, carried_bool, carried_char, carried_integer, carried_tuple, carried_adt, carried_param}
-use Rattle.hir_raw.specs.Scope.{Scope, has_params, adt_params, alias_params}
-use Rattle.hir_raw.specs.Signatures.{type_args}
-use Rattle.hir_facts.specs.PlainTypes.{IsPlainIn, plain_bool, plain_char, plain_integer, plain_tuple, plain_adt, plain_param}
-use Rattle.infer_table.proofs.CompletionLaws.{closing_meets, closing_respects as resolved_respects}
-use Rattle.infer_table.specs.Resolution.{resolution}
-use Rattle.infer_table.specs.Solutions.{Triangular, log_of}
-use Rattle.infer_table.specs.Table.{bindings}
-use Rattle.infer_result.specs.General.{IsGeneralType, AreGeneralTypes, general_hole, general_integer_hole, general_bool, general_char, general_integer, general_tuple, general_adt, general_item, general_param, GivesPlain}
-use Rattle.infer_result.specs.Unknown.{IsKnown, has_unknown, arg_has_unknown}
-use Rattle.infer_result.specs.UnknownLayers.{has_unknown_bool, has_unknown_char, has_unknown_int, has_unknown_uint, has_unknown_var, has_unknown_int_var, has_unknown_tuple, has_unknown_adt, has_unknown_fn_def, has_unknown_param, arg_has_unknown_type, has_unknown_associated}
-use Rattle.infer_ctx.specs.declared.context.InferenceContext.{InferenceContext}
-use Rattle.infer_ctx.specs.Closings.{IsClosing, Closes, IsSound}
-use Rattle.infer_ctx.specs.Fine.{item_params, HasFineHeads, Every}
-use Rattle.infer_ctx.proofs.FineTypes.{every_at, every_from, heads_bool, heads_char, heads_integer, heads_param, heads_tuple, heads_adt, heads_fn_def, heads_associated}
-use Rattle.infer_ctx.proofs.OverTypes.{over_fine, adt_closed, fn_def_closed, carried_args, closing_respects, associated_closed}
-use Rattle.infer_obligations.proofs.Below.{bound_heads, composed_closing}
+use Rattle.infer_end.proofs.Words.{closing_meets, every_at, every_from, heads_bool, heads_char, heads_integer, heads_param, heads_tuple, heads_adt, heads_fn_def, heads_associated, over_fine, adt_closed, fn_def_closed, carried_args, closing_respects, associated_closed, bound_heads, composed_closing}
+use Rattle.infer_end.proofs.Words.infer_table.CompletionLaws.{closing_respects as resolved_respects}
+use Rattle.infer_end.specs.Words.infer_table.Solutions.{log_of}
+use Rattle.infer_end.specs.Words.infer_result.Unknown.{IsKnown}
 use Rattle.infer_end.proofs.Fits.{item_counted}
 use Rattle.std.specs.Cmp.{first_so}
 

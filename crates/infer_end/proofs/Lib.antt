@@ -9,3 +9,4 @@ pub mod PlainGoals
 pub mod SizedTypes
 pub mod SelectedBody
 pub mod Settling
+pub mod Words

@@ -3,41 +3,11 @@ use Rattle.std.specs.Prelude.{◌≡◌, ℕ, zero, suc, List, [], ◌∷◌, le
 use Rattle.std.specs.Option.{option_and_then}
 use Rattle.std.proofs.Common.{refl, sym, ap, subst, ◌∙◌}
 use Rattle.std.proofs.lemmas.List.{length-map}
-use Rattle.hir_types.specs.declared.ids.BodyId.{BodyId}
-use Rattle.hir_types.specs.declared.ids.DefWithBodyId.{DefWithBodyId}
+use Rattle.infer_end.specs.Words.{BodyId, DefWithBodyId, FunctionId, TypeRefId, Ty, folded_agree, fallback, folded_itself, Assignment, each_itself, folded, RawBody, RawFacts, RawFn, RawType, fn_aliases, Scope, scope_of, params_of, has_associated, written_type, body_id_of, inputs_by, inputs_of, output_by, return_type, IsLawful, output_has_no_hole, definition_input_has_no_hole, direct_inputs_fit, direct_output_fits, IsPlainBodyOf, IsPlainSignature, IsCarriedType, carried_error, new_state, HolesAreOf, System, CanStand, IsKnownAs, EachIsKnownAs, AreOwnTypes, AreLetTypes, fn_aliases_by, aliases_of, written_inputs, recorded, IsCarriedIn}
 use Rattle.hir_types.specs.declared.ids.DefWithBodyId.TheVariants as def
-use Rattle.hir_types.specs.declared.ids.FunctionId.{FunctionId}
-use Rattle.hir_types.specs.declared.ids.TypeRefId.{TypeRefId}
 use Rattle.hir_types.specs.declared.ty.IntegerTy.TheVariants.{Int}
 use Rattle.hir_types.specs.declared.ty.IntTy.TheVariants as int
-use Rattle.hir_types.specs.declared.ty.Ty.{Ty}
-use Rattle.hir_types.specs.Agreement.{folded_agree}
-use Rattle.hir_types.specs.Fallback.{fallback}
-use Rattle.hir_types.specs.Replacements.{folded_itself}
-use Rattle.hir_types.specs.Subst.{Assignment, each_itself, folded}
-use Rattle.hir_raw.specs.declared.raw.RawBody.{RawBody}
-use Rattle.hir_raw.specs.declared.raw.RawFacts.{RawFacts}
-use Rattle.hir_raw.specs.declared.raw.RawFn.{RawFn}
-use Rattle.hir_raw.specs.declared.raw.RawType.{RawType}
-use Rattle.hir_raw.specs.Hidden.{fn_aliases}
-use Rattle.hir_raw.specs.Scope.{Scope, scope_of, params_of, has_associated}
-use Rattle.hir_raw.specs.WrittenTypes.{written_type}
-use Rattle.hir_facts.specs.Bodies.{body_id_of, inputs_by, inputs_of, output_by, return_type}
-use Rattle.hir_facts.specs.Lawful.{IsLawful}
-use Rattle.hir_facts.specs.NoHoles.{output_has_no_hole, definition_input_has_no_hole}
-use Rattle.hir_facts.specs.WrittenFits.{direct_inputs_fit, direct_output_fits}
-use Rattle.hir_facts.proofs.NoAliases.{no_aliases, names_none}
-use Rattle.hir_facts.specs.Plain.{IsPlainBodyOf, IsPlainSignature}
-use Rattle.hir_facts.proofs.PlainFns.{plain_direct}
-use Rattle.hir_facts.specs.CarriedTypes.{IsCarriedType, carried_error}
-use Rattle.infer_table.specs.Table.{new_state, HolesAreOf}
-use Rattle.goal_answers.specs.Goals.{System}
-use Rattle.infer_result.specs.OwnTypes.{CanStand, IsKnownAs, EachIsKnownAs, AreOwnTypes, AreLetTypes, fn_aliases_by, aliases_of, written_inputs}
-use Rattle.infer_result.specs.Table.{recorded}
-use Rattle.infer_ctx.specs.Fine.{IsCarriedIn}
-use Rattle.infer_ctx.proofs.OverTypes.{fine_closed}
-use Rattle.infer_ctx.proofs.Written.{is_written}
-use Rattle.infer_obligations.proofs.InHand.{in_hand_fine}
+use Rattle.infer_end.proofs.Words.{no_aliases, names_none, plain_direct, fine_closed, is_written, in_hand_fine}
 use Rattle.infer_end.proofs.PlainBodies.{some_of}
 
 -- ---- a type that can stand there

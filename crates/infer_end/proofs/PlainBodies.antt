@@ -3,50 +3,22 @@ use Rattle.std.specs.Prelude.{IsSomeAnd, option_map}
 use Rattle.std.specs.Option.{option_and_then}
 use Rattle.std.proofs.Common.{◌≡◌, refl, Option, Some, None, subst, ℕ, suc, sym, ap, ◌++◌, ◌∙◌, slice_get, true, List, length, Bool, false, not, ◌||◌, ◌==◌, true≢false, [], ◌∷◌, if◌then◌else◌}
 use Rattle.std.proofs.lemmas.Option.{slice_get_within}
-use Rattle.hir_types.specs.declared.ids.FunctionId.{FunctionId}
-use Rattle.hir_types.specs.declared.ids.VariantId.{VariantId}
-use Rattle.hir_types.specs.declared.ids.DefWithBodyId.{DefWithBodyId}
-use Rattle.hir_types.specs.declared.ids.ExprId.{ExprId}
+use Rattle.infer_end.specs.Words.{FunctionId, VariantId, DefWithBodyId, ExprId, RawBody, RawFacts, body_of, IsLawful, PatId, fn_aliases, variant_aliases, params_of, adt_params, variant_arity, has_associated, has_associated_by, names_alias, is_size_goal, IsPlainBody, IsPlainBodyOf, IsPlainKind, IsPlainType, IsPlainAdt, is_tuple_ctor, is_tuple_variant, is_item, IsPlainExpr, IsPlainStmt, RawType, masked, stmt_aliases, expr_aliases, let_aliases, other_is_itself, StandsIn, is_itself, in_part, type_parts, RawCtor, RawVariant, RawStmt, RawExpr, callee, expr_part, inner, parts_of_expr, stmts_of, fn_signature, taken_types, own_adt, ctor_signature, signature_by, Given, IsPlaceholder, IsPathToItem, TraitId, RawGoal, arg_types, is_sized_lang, is_one_sized_lang, is_sized_trait, only_param, is_below, is_sized_pred, is_in_module}
 use Rattle.hir_types.specs.declared.ids.DefWithBodyId.TheVariants as def
 use Rattle.hir_types.specs.declared.ids.CallableDefId.TheVariants as callable
 use Rattle.hir_types.specs.declared.ids.ExprOrPatId.TheVariants as node
-use Rattle.hir_raw.specs.declared.raw.RawBody.{RawBody}
-use Rattle.hir_raw.specs.declared.raw.RawFacts.{RawFacts}
-use Rattle.hir_facts.specs.Bodies.{body_of}
-use Rattle.hir_facts.specs.Lawful.{IsLawful}
-use Rattle.hir_facts.proofs.NoAliases.{none_within, no_aliases}
-use Rattle.hir_types.specs.declared.ids.PatId.{PatId}
-use Rattle.hir_raw.specs.declared.raw.RawPat.TheVariants as pat
-use Rattle.hir_raw.specs.Hidden.{fn_aliases, variant_aliases}
+use Rattle.infer_end.proofs.Words.{none_within, no_aliases, kind_direct, type_direct, plain_direct}
+use Rattle.infer_end.specs.Words.hir_raw.declared.raw.RawPat.TheVariants as pat
 use Rattle.infer_end.proofs.PlainFields.{adt_aliases}
-use Rattle.hir_raw.specs.Scope.{params_of, adt_params, variant_arity, has_associated, has_associated_by, names_alias, is_size_goal}
-use Rattle.hir_facts.proofs.PlainFns.{kind_direct, type_direct, plain_direct}
-use Rattle.hir_facts.specs.Plain.{IsPlainBody, IsPlainBodyOf, IsPlainKind, IsPlainType, plain, IsPlainAdt, is_tuple_ctor, is_tuple_variant, is_item, IsPlainExpr, IsPlainStmt}
-use Rattle.hir_raw.specs.declared.raw.RawType.{RawType}
-use Rattle.hir_raw.specs.Lets.{masked, stmt_aliases, expr_aliases, let_aliases}
-use Rattle.hir_raw.specs.Masked.{other_is_itself}
-use Rattle.hir_raw.specs.WrittenTypes.{StandsIn, is_itself, in_part, type_parts}
-use Rattle.hir_raw.specs.declared.raw.RawCtor.{RawCtor}
-use Rattle.hir_raw.specs.declared.raw.RawVariant.{RawVariant}
-use Rattle.hir_raw.specs.declared.raw.RawStmt.{RawStmt}
-use Rattle.hir_raw.specs.declared.raw.RawExpr.{RawExpr}
-use Rattle.hir_raw.specs.Order.{callee, expr_part, inner, parts_of_expr, stmts_of}
-use Rattle.hir_raw.specs.Signatures.{fn_signature, taken_types, own_adt, ctor_signature, signature_by}
-use Rattle.hir_raw.specs.declared.raw.RawType.TheVariants as type
-use Rattle.hir_raw.specs.declared.raw.RawCtor.TheVariants as ctor
-use Rattle.hir_raw.specs.declared.raw.RawStmt.TheVariants as stmt
-use Rattle.hir_raw.specs.declared.raw.RawPath.TheVariants as path
-use Rattle.hir_raw.specs.declared.raw.RawExpr.TheVariants as expr
-use Rattle.infer_result.specs.Places.{Given, IsPlaceholder}
-use Rattle.infer_result.specs.Kinds.Call.{IsPathToItem}
+use Rattle.infer_end.specs.Words.hir_facts.Plain.{plain}
+use Rattle.infer_end.specs.Words.hir_raw.declared.raw.RawType.TheVariants as type
+use Rattle.infer_end.specs.Words.hir_raw.declared.raw.RawCtor.TheVariants as ctor
+use Rattle.infer_end.specs.Words.hir_raw.declared.raw.RawStmt.TheVariants as stmt
+use Rattle.infer_end.specs.Words.hir_raw.declared.raw.RawPath.TheVariants as path
+use Rattle.infer_end.specs.Words.hir_raw.declared.raw.RawExpr.TheVariants as expr
 use Rattle.std.specs.Cmp.{first_so, second_so}
 use Rattle.std.specs.List.{list_all, list_any, flat_map}
-use Rattle.hir_types.specs.declared.ids.TraitId.{TraitId}
-use Rattle.hir_raw.specs.declared.raw.RawGoal.{RawGoal}
-use Rattle.hir_raw.specs.declared.raw.RawGoal.TheVariants as goal
-use Rattle.hir_raw.specs.Goals.{arg_types, is_sized_lang}
-use Rattle.hir_facts.specs.Sized.{is_one_sized_lang, is_sized_trait, only_param, is_below, is_sized_pred}
-use Rattle.hir_facts.specs.Carried.{is_in_module}
+use Rattle.infer_end.specs.Words.hir_raw.declared.raw.RawGoal.TheVariants as goal
 
 pub some_of : {A : Type 0} (P : A → Type 0) (o : Option A) → IsSomeAnd o P → (x : A) × (o ≡ Some x) × P x
 some_of P None h = absurd h

@@ -1,18 +1,8 @@
 -- A variant of a plain adt has no associated type in a field.
 use Rattle.std.specs.List.{flat_map}
 use Rattle.std.proofs.Common.{ℕ, zero, suc, ◌≡◌, ◌⊎◌, inl, inr, refl, sym, ap, ◌∙◌, subst, List, [], ◌∷◌, ◌++◌, map, length, Some, slice_get, true}
-use Rattle.hir_types.specs.declared.ids.VariantId.{VariantId}
-use Rattle.hir_raw.specs.declared.raw.RawAdt.{RawAdt}
-use Rattle.hir_raw.specs.declared.raw.RawFacts.{RawFacts}
-use Rattle.hir_raw.specs.declared.raw.RawVariant.{RawVariant}
-use Rattle.hir_raw.specs.Hidden.{variant_aliases}
-use Rattle.hir_facts.specs.Ids.{adt_variants}
-use Rattle.hir_facts.specs.Lawful.{IsLawful}
-use Rattle.hir_facts.specs.LawfulFacts.{adt_ids, variant_ids}
-use Rattle.hir_facts.specs.NoHoles.{In, in_flat}
-use Rattle.hir_facts.proofs.NoAliases.{no_field_aliases}
-use Rattle.hir_facts.specs.Plain.{IsPlainAdt, adt_fields, fields_by}
-use Rattle.hir_facts.proofs.PlainFns.{type_direct}
+use Rattle.infer_end.specs.Words.{VariantId, RawAdt, RawFacts, RawVariant, variant_aliases, adt_variants, IsLawful, adt_ids, variant_ids, In, in_flat, IsPlainAdt, adt_fields, fields_by}
+use Rattle.infer_end.proofs.Words.{no_field_aliases, type_direct}
 
 -- ---- lists
 

@@ -5,87 +5,23 @@ use Rattle.std.specs.Option.{option_and_then}
 use Rattle.std.proofs.Common.{ℕ, zero, suc, ◌+◌, ◌<◌, ◌==◌, ◌≡◌, inl, inr, arith, Bool, true, false, refl, sym, ap, ◌∙◌, subst, true≢false, if◌then◌else◌, List, [], ◌∷◌, map, length, Option, Some, None, option_map, slice_get}
 use Rattle.std.proofs.lemmas.Bool.{ltb-true, eqb-true, or_cases, or_left, or_right}
 use Rattle.std.proofs.lemmas.Option.{slice_get_within}
-use Rattle.hir_types.specs.declared.ids.AdtId.{AdtId}
-use Rattle.hir_types.specs.declared.ids.ExprId.{ExprId}
+use Rattle.infer_end.specs.Words.{AdtId, ExprId, PatId, FunctionId, TraitId, TypeRefId, VariantId, CallableDefId, DefWithBodyId, GenericDefId, GenericArg, Ty, Ty-F, out-Ty, out-roll-Ty, with_params, map_twice, param_at, replaced, Term, hole, leaf, pair, node, term, arg_term_type, term_param, RawAdt, RawBody, RawCtor, RawExpr, RawFn, RawGoal, RawLang, RawPath, RawTraitRef, RawType, RawVariant, RawFacts, arg_types, is_sized_lang, variant_aliases, adt_params, count_or_none, fn_arity, variant_arity, scope_of, params_of, types_scope, type_args, ctor_type_by, filled_by, filled_within, written_type, is_in_module, SignatureNamesNone, body_of, IsLawful, IsPlainPath, IsPlainBody, IsPlainBodyOf, IsPlainExpr, is_unit_or_tuple, HasSizedParams, HasPlainBody, is_plain_adt_kind, are_direct_structs, is_one_sized_lang, is_sized_trait, param_number, only_param, sized_param, is_number, is_below, is_sized_of, is_sized_pred, Asked, Rule as Source, System, implements, only, is_trait, is_among, OneIf, SomeOf, IsKnown, Verdicts, Aliases, ReadsAs, SizedYes, Proves, HasSource, YesAt, alias_first, alias_next, nothing, answers, own_params, instance, args_at, goal_at, preds_or_none, IsStated, fact, sized_by, IsSystemOf, InferenceResult, PathRule, OnlyCtorPatsHaveItems, alias_goals_from, fn_alias_goals, variant_alias_goals, path_alias_goals, alias_goals, variant_preds, path_preds, expr_preds, item_args, needed_goals, needs_of, pat_needs_of, needs_preds, NeedsHold, Given, at_types, ObeysExpression, HasTy, recorded, given, IsCarriedIn, HasFineHeads, new_state}
 use Rattle.hir_types.specs.declared.ids.ExprOrPatId.TheVariants as of_node
-use Rattle.hir_types.specs.declared.ids.PatId.{PatId}
-use Rattle.hir_types.specs.declared.ids.FunctionId.{FunctionId}
-use Rattle.hir_types.specs.declared.ids.TraitId.{TraitId}
-use Rattle.hir_types.specs.declared.ids.TypeRefId.{TypeRefId}
-use Rattle.hir_types.specs.declared.ids.VariantId.{VariantId}
-use Rattle.hir_types.specs.declared.ids.CallableDefId.{CallableDefId}
 use Rattle.hir_types.specs.declared.ids.CallableDefId.TheVariants as callable
-use Rattle.hir_types.specs.declared.ids.DefWithBodyId.{DefWithBodyId}
 use Rattle.hir_types.specs.declared.ids.DefWithBodyId.TheVariants as def
-use Rattle.hir_types.specs.declared.ids.GenericDefId.{GenericDefId}
 use Rattle.hir_types.specs.declared.ids.GenericDefId.TheVariants as generic
 use Rattle.hir_types.specs.declared.head.Head.TheVariants as head
-use Rattle.hir_types.specs.declared.ty.GenericArg.{GenericArg}
 use Rattle.hir_types.specs.declared.ty.GenericArg.TheVariants as arg
-use Rattle.hir_types.specs.declared.ty.Ty.{Ty, Ty-F, out-Ty, out-roll-Ty}
 use Rattle.hir_types.specs.declared.ty.Ty.TheVariants as ty
-use Rattle.hir_types.specs.Assigned.{with_params}
-use Rattle.hir_types.specs.Folds.{map_twice}
-use Rattle.hir_types.specs.Instances.{param_at}
-use Rattle.hir_types.specs.Subst.{replaced}
-use Rattle.hir_types.specs.Terms.{Term, hole, leaf, pair, node, term}
-use Rattle.hir_types.specs.TermLaws.{arg_term_type, term_param}
-use Rattle.hir_raw.specs.declared.raw.RawAdt.{RawAdt}
-use Rattle.hir_raw.specs.declared.raw.RawBody.{RawBody}
-use Rattle.hir_raw.specs.declared.raw.RawCtor.{RawCtor}
-use Rattle.hir_raw.specs.declared.raw.RawCtor.TheVariants as ctor
-use Rattle.hir_raw.specs.declared.raw.RawExpr.{RawExpr}
-use Rattle.hir_raw.specs.declared.raw.RawExpr.TheVariants as expr
-use Rattle.hir_raw.specs.declared.raw.RawFn.{RawFn}
-use Rattle.hir_raw.specs.declared.raw.RawGoal.{RawGoal}
-use Rattle.hir_raw.specs.declared.raw.RawGoal.TheVariants as goal
-use Rattle.hir_raw.specs.declared.raw.RawLang.{RawLang}
-use Rattle.hir_raw.specs.declared.raw.RawLang.TheVariants as lang
-use Rattle.hir_raw.specs.declared.raw.RawPath.{RawPath}
-use Rattle.hir_raw.specs.declared.raw.RawPath.TheVariants as path
-use Rattle.hir_raw.specs.declared.raw.RawTraitRef.{RawTraitRef}
-use Rattle.hir_raw.specs.declared.raw.RawType.{RawType}
-use Rattle.hir_raw.specs.declared.raw.RawType.TheVariants as type
-use Rattle.hir_raw.specs.declared.raw.RawVariant.{RawVariant}
-use Rattle.hir_raw.specs.declared.raw.RawFacts.{RawFacts}
-use Rattle.hir_raw.specs.Goals.{arg_types, is_sized_lang}
-use Rattle.hir_raw.specs.Hidden.{variant_aliases}
-use Rattle.hir_raw.specs.Scope.{adt_params, count_or_none, fn_arity, variant_arity, scope_of, params_of, types_scope}
-use Rattle.hir_raw.specs.Signatures.{type_args, ctor_type_by}
-use Rattle.hir_raw.specs.WrittenTypes.{filled_by, filled_within, written_type}
-use Rattle.hir_facts.specs.Carried.{is_in_module}
-use Rattle.hir_facts.specs.Projections.{SignatureNamesNone}
-use Rattle.hir_facts.proofs.CarriedBodies.{list_all_at}
-use Rattle.hir_facts.specs.Bodies.{body_of}
-use Rattle.hir_facts.specs.Lawful.{IsLawful}
-use Rattle.hir_facts.proofs.NoAliases.{no_aliases, own_arity}
-use Rattle.hir_facts.specs.Plain.{IsPlainPath, IsPlainBody, IsPlainBodyOf, IsPlainExpr, is_unit_or_tuple, HasSizedParams, HasPlainBody, is_plain_adt_kind}
-use Rattle.hir_facts.proofs.PlainFns.{plain_direct}
-use Rattle.hir_facts.specs.Sized.{are_direct_structs, is_one_sized_lang, is_sized_trait, param_number, only_param, sized_param, is_number, is_below, is_sized_of, is_sized_pred}
-use Rattle.goal_answers.specs.Goals.{Asked, Rule as Source, System, implements, only, is_trait, is_among, OneIf, SomeOf, IsKnown, Verdicts}
-use Rattle.goal_answers.specs.Reading.{Aliases, ReadsAs}
-use Rattle.goal_answers.specs.Rows.{SizedYes}
-use Rattle.goal_answers.specs.Answers.{Proves, HasSource, YesAt, alias_first, alias_next, nothing, answers}
-use Rattle.goal_answers.proofs.Readings.{read_reads}
-use Rattle.goal_facts.specs.Arguments.{own_params, instance, args_at, goal_at}
-use Rattle.goal_facts.specs.Environment.{preds_or_none, IsStated, Follows}
-use Rattle.goal_facts.specs.Systems.{fact, sized_by, IsSystemOf}
-use Rattle.goal_facts.proofs.Adding.{get_in_map}
-use Rattle.infer_result.specs.declared.result.InferenceResult.{InferenceResult}
-use Rattle.infer_result.specs.Kinds.Path.{PathRule}
-use Rattle.infer_result.specs.Closed.{OnlyCtorPatsHaveItems}
-use Rattle.infer_result.specs.AliasNeeds.{alias_goals_from, fn_alias_goals, variant_alias_goals, path_alias_goals, alias_goals}
-use Rattle.infer_result.specs.Needs.{variant_preds, path_preds, expr_preds, item_args, needed_goals, needs_of, pat_needs_of, needs_preds, NeedsHold}
-use Rattle.infer_result.specs.Places.{Given}
-use Rattle.infer_result.specs.Placing.{at_types}
-use Rattle.infer_result.specs.Rules.{Rule, ObeysExpression}
-use Rattle.infer_result.specs.Table.{HasTy, recorded}
-use Rattle.infer_result.specs.Typed.{given}
-use Rattle.infer_ctx.specs.Fine.{IsCarriedIn, HasFineHeads}
-use Rattle.infer_ctx.proofs.FineTypes.{every_at, fine_fn_args}
-use Rattle.infer_ctx.proofs.Lists.{found}
-use Rattle.infer_ctx.proofs.OverTypes.{carried_fine}
-use Rattle.infer_table.specs.Table.{new_state}
+use Rattle.infer_end.specs.Words.hir_raw.declared.raw.RawCtor.TheVariants as ctor
+use Rattle.infer_end.specs.Words.hir_raw.declared.raw.RawExpr.TheVariants as expr
+use Rattle.infer_end.specs.Words.hir_raw.declared.raw.RawGoal.TheVariants as goal
+use Rattle.infer_end.specs.Words.hir_raw.declared.raw.RawLang.TheVariants as lang
+use Rattle.infer_end.specs.Words.hir_raw.declared.raw.RawPath.TheVariants as path
+use Rattle.infer_end.specs.Words.hir_raw.declared.raw.RawType.TheVariants as type
+use Rattle.infer_end.proofs.Words.{list_all_at, no_aliases, own_arity, plain_direct, read_reads, get_in_map, every_at, fine_fn_args, found, carried_fine}
+use Rattle.infer_end.specs.Words.goal_facts.Environment.{Follows}
+use Rattle.infer_end.specs.Words.infer_result.Rules.{Rule}
 use Rattle.infer_end.proofs.PlainBodies.{some_of, plain_body, none_plain, no_ctor_aliases}
 use Rattle.infer_end.proofs.PlainFields.{adt_aliases}
 use Rattle.infer_end.proofs.SizedTypes.{IsClosedIn, AreClosedIn, fine_is_read, fine_is_known, adt_args_closed, has_size}

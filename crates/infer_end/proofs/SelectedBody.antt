@@ -1,31 +1,8 @@
 -- What is found out about a body holds where more is known of its holes.
 use Rattle.std.proofs.Common.{◌≡◌, List, refl, subst, Option}
-use Rattle.hir_types.specs.Terms.{terms_of}
-use Rattle.hir_types.specs.declared.ids.DefWithBodyId.{DefWithBodyId}
-use Rattle.hir_types.specs.declared.ids.GenericDefId.{GenericDefId}
-use Rattle.hir_raw.specs.declared.raw.RawBody.{RawBody}
-use Rattle.hir_raw.specs.declared.raw.RawFacts.{RawFacts}
-use Rattle.infer_table.specs.Completion.{completion}
-use Rattle.infer_table.specs.Preserved.{BindsOnly}
-use Rattle.infer_table.specs.Solutions.{Respects, log_of}
-use Rattle.infer_table.specs.Table.{Meets, bindings}
-use Rattle.goal_facts.specs.Systems.{IsSystemOf}
-use Rattle.goal_search.specs.Sources.{system}
-use Rattle.infer_ctx.specs.Below.{GoalTable, AreKept}
-use Rattle.infer_result.specs.Needs.{scope_item}
-use Rattle.infer_result.specs.Places.{Given}
-use Rattle.hir_types.specs.declared.ty.Ty.{Ty}
-use Rattle.infer_result.specs.Typed.{given_by}
-use Rattle.infer_ctx.specs.declared.context.InferenceContext.{InferenceContext}
-use Rattle.infer_ctx.specs.Asked.{IsTold}
-use Rattle.infer_ctx.specs.Context.{with_goal_table}
-use Rattle.infer_ctx.specs.Fine.{is_fine_head}
-use Rattle.infer_ctx.specs.Steps.{BodyDone}
-use Rattle.infer_ctx.proofs.FineTypes.{fine_no_alias}
-use Rattle.infer_ctx.proofs.UnderClosings.{decided_later, closes_earlier}
-use Rattle.infer_obligations.specs.Selection.{AreSelected, IsSelection}
-use Rattle.infer_obligations.proofs.Selecting.{StaysApart, selected_apart, selected_heads}
-use Rattle.infer_obligations.proofs.Walking.{sound_later}
+use Rattle.infer_end.specs.Words.{terms_of, DefWithBodyId, GenericDefId, RawBody, RawFacts, completion, BindsOnly, Respects, Meets, bindings, IsSystemOf, system, GoalTable, AreKept, scope_item, Given, Ty, given_by, InferenceContext, IsTold, with_goal_table, is_fine_head, BodyDone, AreSelected, IsSelection}
+use Rattle.infer_end.specs.Words.infer_table.Solutions.{log_of}
+use Rattle.infer_end.proofs.Words.{fine_no_alias, decided_later, closes_earlier, StaysApart, selected_apart, selected_heads, sound_later}
 
 module _ (g : Given) (c : InferenceContext) (done : BodyDone g c) (told : IsTold g c) (goals : GoalTable) (of_item : IsSystemOf c.goals.sources.facts c.goals.sources.item (system c.goals.sources.sources))
     (selected : AreSelected c.goals.sources.facts (system c.goals.sources.sources) c.goals.table c.goals.obligations goals.table goals.obligations)

@@ -1,35 +1,9 @@
 -- What is found out about a body holds where goals are selected and associated types are read in the end.
 use Rattle.std.specs.Prelude.{◌<◌, ◌≤◌, ◌+◌, ℕ, suc, length}
 use Rattle.std.proofs.Common.{◌≡◌, ◌∙◌, refl, sym, ap, subst, inl, inr, arith, true≢false, List, Option, Some, None, is_some, true, false}
-use Rattle.hir_types.specs.Terms.{terms_of}
-use Rattle.hir_types.specs.declared.ids.DefWithBodyId.{DefWithBodyId}
-use Rattle.hir_raw.specs.declared.raw.RawFacts.{RawFacts}
-use Rattle.infer_table.specs.Completion.{completion}
-use Rattle.infer_table.specs.FallBack.{FellBack}
-use Rattle.infer_table.specs.Solutions.{Respects}
-use Rattle.infer_table.specs.Table.{State, Meets, bindings}
-use Rattle.infer_table.proofs.FallingBack.{binds_only_fallen}
-use Rattle.infer_result.specs.Closed.{IsOfBody}
-use Rattle.infer_result.specs.Made.{IsMade}
-use Rattle.infer_result.specs.Places.{Given}
-use Rattle.infer_result.specs.Table.{At}
-use Rattle.infer_result.specs.declared.result.General.{General}
-use Rattle.infer_result.specs.declared.result.InferenceResult.{InferenceResult}
-use Rattle.infer_result.specs.declared.result.TypeMismatch.{TypeMismatch}
-use Rattle.infer_ctx.specs.Below.{GoalTable, stays_with}
-use Rattle.infer_ctx.specs.declared.context.InferenceContext.{InferenceContext}
-use Rattle.infer_ctx.specs.Closings.{IsSound, closed_table}
-use Rattle.infer_ctx.specs.Context.{with_general, with_table}
-use Rattle.infer_ctx.specs.Fine.{is_fine_head}
-use Rattle.infer_ctx.specs.Steps.{BodyDone, OnlyBinds}
-use Rattle.infer_ctx.proofs.Asked.{told_same}
-use Rattle.infer_ctx.proofs.UnderClosings.{decided_later, closes_earlier}
-use Rattle.infer_coerce.proofs.Unified.{binds_nothing, binds_twice}
-use Rattle.infer_obligations.specs.Reading.{ReadsOn}
-use Rattle.infer_obligations.specs.Selection.{IsSelection, SelectsInWalk}
-use Rattle.infer_obligations.proofs.Walking.{sound_later}
-use Rattle.infer_end.specs.KeptTypes.{KeepsGeneral}
-use Rattle.infer_end.specs.SelectedBody.{OnlyGoals, FallsBack, SelectsThenReads, SelectsThenReadsTimes, SelectsAndReadsOn, SettlesBody, SettlesLast}
+use Rattle.infer_end.specs.Words.{terms_of, DefWithBodyId, RawFacts, completion, FellBack, Respects, State, Meets, bindings, IsOfBody, IsMade, Given, At, General, InferenceResult, TypeMismatch, GoalTable, stays_with, InferenceContext, IsSound, closed_table, with_general, with_table, is_fine_head, BodyDone, OnlyBinds, ReadsOn, IsSelection, SelectsInWalk}
+use Rattle.infer_end.proofs.Words.{binds_only_fallen, told_same, decided_later, closes_earlier, binds_nothing, binds_twice, sound_later}
+use Rattle.infer_end.specs.Own.{KeepsGeneral, OnlyGoals, FallsBack, SelectsThenReads, SelectsThenReadsTimes, SelectsAndReadsOn, SettlesBody, SettlesLast}
 
 -- where some holes more are bound
 pub binds_done : (g : Given) (old new : InferenceContext) → BodyDone g old → OnlyBinds g old new → BodyDone g new

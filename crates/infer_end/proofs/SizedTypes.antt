@@ -3,58 +3,16 @@ use Rattle.std.specs.List.{list_all, range_with_len}
 use Rattle.std.specs.Option.{option_and_then}
 use Rattle.std.proofs.Common.{ℕ, zero, suc, ◌+◌, ◌-◌, ◌<◌, ◌≡◌, arith, true, refl, sym, ap, ◌∙◌, subst, true≢false, List, [], ◌∷◌, map, length, Option, Some, None, option_map, slice_get, Bool, false}
 use Rattle.std.proofs.lemmas.Bool.{ltb-true, eqb-true, or_left}
-use Rattle.hir_types.specs.declared.ids.AdtId.{AdtId}
-use Rattle.hir_types.specs.declared.ids.VariantId.{VariantId}
-use Rattle.hir_types.specs.declared.ids.TypeRefId.{TypeRefId}
-use Rattle.hir_types.specs.declared.head.Head.{Head}
+use Rattle.infer_end.specs.Words.{AdtId, VariantId, TypeRefId, Head, Hole, Ty, replaced_var, arg_replaced_type, Assignment, with_holes, args_replaced, Term, hole, leaf, pair, node, chain, type_part, term, arg_term, terms_of, apply, occurs, hole_number, parts_of_types, arg_term_type, term_bool, term_char, term_int, term_uint, term_tuple, term_param, term_var, term_int_var, term_adt_types, term_fn_def_types, RawAdt, RawAdtKind, RawField, RawVariant, RawFacts, variant_aliases, Scope, adt_params, has_params, types_scope, type_args, at_args, written_type, is_empty, IsLawful, adt_ids, field_has_no_hole, fields_fit, fits_direct, is_direct_variant, is_direct_struct, are_direct_structs, are_of_parts, hole_eq_same, TermRole, whole, part, rest, IsTypeMark, IsMadeOf, width, AreOf, new_state, System, IsKnownPart, Fill, Aliases, IsReadLeaf, IsRead, ReadsAs, role, AreArgs, IsNth, IsLast, field_tail, SizedYes, holes, instance, type_at, HasHolesBelow, last_of, variant_of, last_field_of, IsFine, AllFine, is_fine_head, HasFineHeads}
 use Rattle.hir_types.specs.declared.head.Head.TheVariants as head
-use Rattle.hir_types.specs.declared.head.Hole.{Hole}
 use Rattle.hir_types.specs.declared.head.Hole.TheVariants as hole_of
 use Rattle.hir_types.specs.declared.ty.Const.TheVariants as const
 use Rattle.hir_types.specs.declared.ty.GenericArg.TheVariants as arg
-use Rattle.hir_types.specs.declared.ty.Ty.{Ty}
 use Rattle.hir_types.specs.declared.ty.Ty.TheVariants as ty
-use Rattle.hir_types.specs.Replacements.{replaced_var, arg_replaced_type}
-use Rattle.hir_types.specs.Subst.{Assignment, with_holes, args_replaced}
-use Rattle.hir_types.specs.Terms.{Term, hole, leaf, pair, node, chain, type_part, term, arg_term, terms_of, apply, occurs, hole_number}
-use Rattle.hir_types.specs.TermLaws.{parts_of_types, arg_term_type, term_bool, term_char, term_int, term_uint, term_tuple, term_param, term_var, term_int_var, term_adt_types, term_fn_def_types}
-use Rattle.hir_raw.specs.declared.raw.RawAdt.{RawAdt}
-use Rattle.hir_raw.specs.declared.raw.RawAdtKind.{RawAdtKind}
-use Rattle.hir_raw.specs.declared.raw.RawAdtKind.TheVariants as kind
-use Rattle.hir_raw.specs.declared.raw.RawField.{RawField}
-use Rattle.hir_raw.specs.declared.raw.RawVariant.{RawVariant}
-use Rattle.hir_raw.specs.declared.raw.RawFacts.{RawFacts}
-use Rattle.hir_raw.specs.Hidden.{variant_aliases}
-use Rattle.hir_raw.specs.Scope.{Scope, adt_params, has_params, types_scope}
-use Rattle.hir_raw.specs.Signatures.{type_args, at_args}
-use Rattle.hir_raw.specs.WrittenTypes.{written_type}
-use Rattle.hir_facts.proofs.CarriedBodies.{list_all_at}
-use Rattle.hir_facts.specs.Carried.{is_empty}
-use Rattle.hir_facts.proofs.NoAliases.{field_direct}
-use Rattle.hir_facts.specs.Lawful.{IsLawful}
-use Rattle.hir_facts.specs.LawfulFacts.{adt_ids}
-use Rattle.hir_facts.specs.NoHoles.{field_has_no_hole}
-use Rattle.hir_facts.specs.WrittenFits.{fields_fit, fits_direct}
-use Rattle.hir_facts.specs.Sized.{is_direct_variant, is_direct_struct, are_direct_structs}
-use Rattle.infer_table.specs.LogLemmas.{are_of_parts}
-use Rattle.infer_table.specs.TermLemmas.{hole_eq_same}
-use Rattle.infer_table.specs.Preserved.{TermRole, whole, part, rest, IsHead, IsTypeMark, IsMadeOf, width}
-use Rattle.infer_table.specs.Solutions.{AreOf}
-use Rattle.infer_table.specs.Table.{new_state}
-use Rattle.goal_answers.specs.Goals.{System, IsKnownPart}
-use Rattle.goal_answers.specs.Reading.{Fill, Aliases, IsReadLeaf, IsRead, ReadsAs, role}
-use Rattle.goal_answers.specs.Rows.{AreArgs, IsNth, IsLast, field_tail, SizedYes}
-use Rattle.goal_answers.proofs.Filled.{SizedYesBy}
-use Rattle.goal_answers.proofs.Readings.{read_reads}
-use Rattle.goal_facts.specs.Arguments.{holes, instance, type_at}
-use Rattle.goal_facts.specs.ImplGoals.{HasHolesBelow}
-use Rattle.goal_facts.specs.Systems.{last_of, variant_of, last_field_of}
-use Rattle.goal_facts.proofs.FreshGoals.{type_under, args_holes}
-use Rattle.infer_ctx.specs.Fine.{IsFine, AllFine, IsWritten, is_fine_head, HasFineHeads}
-use Rattle.infer_ctx.proofs.FineTypes.{every_at, fine_elements}
-use Rattle.infer_ctx.proofs.Instances.{fine_instance}
-use Rattle.infer_ctx.proofs.OverTypes.{over_fine}
-use Rattle.infer_ctx.proofs.Written.{is_written}
+use Rattle.infer_end.specs.Words.hir_raw.declared.raw.RawAdtKind.TheVariants as kind
+use Rattle.infer_end.proofs.Words.{list_all_at, field_direct, SizedYesBy, read_reads, type_under, args_holes, every_at, fine_elements, fine_instance, over_fine, is_written}
+use Rattle.infer_end.specs.Words.infer_table.Preserved.{IsHead}
+use Rattle.infer_end.specs.Words.infer_ctx.Fine.{IsWritten}
 
 -- fine, and without holes
 abbrev pub IsClosedIn : Scope → Ty → Type 0

@@ -1,24 +1,7 @@
 -- What was found out about a body before its open holes fall back, by what it comes to then.
 use Rattle.std.specs.Prelude.{◌≡◌, List, Option}
-use Rattle.hir_types.specs.Terms.{terms_of}
-use Rattle.hir_types.specs.declared.ids.DefWithBodyId.{DefWithBodyId}
-use Rattle.hir_types.specs.declared.ty.Ty.{Ty}
-use Rattle.hir_raw.specs.declared.raw.RawBody.{RawBody}
-use Rattle.hir_raw.specs.declared.raw.RawFacts.{RawFacts}
-use Rattle.goal_facts.specs.declared.proof.Proof.{Proof}
-use Rattle.infer_table.specs.Completion.{completion}
-use Rattle.infer_table.specs.Solutions.{Respects, Triangular, log_of}
-use Rattle.infer_table.specs.Table.{Meets, bindings}
-use Rattle.infer_result.specs.declared.gaps.Gap.{Gap}
-use Rattle.infer_result.specs.declared.result.InferenceResult.{InferenceResult}
-use Rattle.infer_result.specs.General.{HasGeneral}
-use Rattle.infer_result.specs.Needs.{with_goals}
-use Rattle.infer_result.specs.OwnTypes.{AreOwnTypes, AreLetTypes}
-use Rattle.infer_result.specs.Typed.{IsTableOf, given_by}
-use Rattle.infer_obligations.specs.Reading.{EndsSettled}
-use Rattle.infer_ctx.specs.declared.context.InferenceContext.{InferenceContext}
-use Rattle.infer_ctx.specs.Closings.{closed_table}
-use Rattle.infer_ctx.specs.Steps.{BodyDone}
+use Rattle.infer_end.specs.Words.{terms_of, DefWithBodyId, Ty, RawBody, RawFacts, Proof, completion, Respects, Triangular, Meets, bindings, Gap, InferenceResult, HasGeneral, with_goals, AreOwnTypes, AreLetTypes, IsTableOf, given_by, EndsSettled, InferenceContext, closed_table, BodyDone}
+use Rattle.infer_end.specs.Words.infer_table.Solutions.{log_of}
 use Rattle.infer_end.specs.SelectedBody.{SettlesLast}
 
 -- the table that it comes to, with these proofs and what could not be shown

@@ -1,15 +1,6 @@
 -- What is kept of the types of a plain body before open holes fall back.
 use Rattle.std.specs.Prelude.{ℕ, ◌<◌, List, length, Option, ◌≡◌, map, Some, option_map, ◌⊎◌, None}
-use Rattle.hir_types.specs.declared.ty.Ty.{Ty}
-use Rattle.hir_types.specs.declared.ids.DefWithBodyId.{DefWithBodyId}
-use Rattle.hir_raw.specs.declared.raw.RawFacts.{RawFacts}
-use Rattle.hir_facts.specs.Plain.{IsPlainBodyOf}
-use Rattle.infer_table.specs.Table.{State, resolved_type}
-use Rattle.infer_result.specs.Table.{At}
-use Rattle.infer_result.specs.declared.result.InferenceResult.{InferenceResult}
-use Rattle.infer_result.specs.declared.result.General.{General}
-use Rattle.infer_ctx.specs.declared.context.InferenceContext.{InferenceContext}
-use Rattle.infer_ctx.specs.Context.{with_general}
+use Rattle.infer_end.specs.Words.{Ty, DefWithBodyId, RawFacts, IsPlainBodyOf, State, resolved_type, At, InferenceResult, General, InferenceContext, with_general}
 
 -- a type is recorded at each place
 abbrev pub IsFull : List (Option Ty) → Type 0

@@ -1,14 +1,6 @@
 -- What selection does to what was found out about a body.
 use Rattle.std.specs.Prelude.{◌≡◌, ◌⊎◌, ℕ, zero, suc, length, Some, None}
-use Rattle.hir_types.specs.declared.ids.DefWithBodyId.{DefWithBodyId}
-use Rattle.infer_table.specs.FallBack.{FellBack}
-use Rattle.infer_table.specs.Table.{bindings}
-use Rattle.infer_result.specs.declared.result.General.{General}
-use Rattle.infer_result.specs.Places.{Given}
-use Rattle.infer_ctx.specs.declared.context.InferenceContext.{InferenceContext}
-use Rattle.infer_ctx.specs.Steps.{BodyDone, OnlyBinds}
-use Rattle.infer_obligations.specs.Reading.{ReadsOn}
-use Rattle.infer_obligations.specs.Selection.{IsSelection, SelectsInWalk}
+use Rattle.infer_end.specs.Words.{DefWithBodyId, FellBack, bindings, General, Given, InferenceContext, BodyDone, OnlyBinds, ReadsOn, IsSelection, SelectsInWalk}
 
 -- the table of goals alone may change, with its holes
 pub record OnlyGoals (old new : InferenceContext) : Type 0 where

@@ -1,16 +1,10 @@
 //! What nodes need, selected before open holes fall back, and read and selected in turn with what is known once those for integer types
 //! have: `infer.rs`, `infer_body`, where `select_obligations_where_possible` is called.
 ghost use Rattle.std.specs.Prelude.{◌≡◌, OnOk};
-ghost use Rattle.infer_result.specs.Needs.{scope_item};
-ghost use Rattle.infer_ctx.specs.Asked.{IsTold};
-ghost use Rattle.infer_ctx.specs.Closings.{IsSound};
-ghost use Rattle.infer_result.specs.Closed.{IsOfBody};
-ghost use Rattle.infer_ctx.specs.Context.{given_of, scope_in};
-ghost use Rattle.infer_ctx.specs.Steps.{BodyDone};
-ghost use Rattle.infer_obligations.specs.Selection.{IsSelection};
-ghost use Rattle.infer_end.specs.SelectedBody.{OnlyGoals, FallsBack, SelectsThenReads, SelectsAndReadsOn, SettlesBody, SettlesLast};
+ghost use Rattle.infer_end.specs.Words.{scope_item, IsTold, IsSound, IsOfBody, given_of, scope_in, BodyDone, IsSelection};
+ghost use Rattle.infer_end.specs.Own.{OnlyGoals, FallsBack, SelectsThenReads, SelectsAndReadsOn, SettlesBody, SettlesLast};
 
-use infer_ctx::{GivenBody, InferenceContext};
+use infer_obligations::infer_ctx::{GivenBody, InferenceContext};
 use infer_obligations::{read_all, select_obligations_where_possible, select_registered};
 use std::alloc::{AllocError, Global};
 

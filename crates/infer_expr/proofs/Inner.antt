@@ -9,7 +9,7 @@ use Rattle.hir_raw.specs.declared.schedule.Schedule.{Schedule}
 use Rattle.hir_facts.specs.Lawful.{IsLawful}
 use Rattle.goal_answers.specs.Goals.{Each}
 use Rattle.goal_search.specs.Sources.{system}
-use Rattle.infer_goals.specs.Below.{HasHeadsIfConcrete}
+use Rattle.infer_goals.specs.Words.{HasHeadsIfConcrete}
 use Rattle.infer_goals.specs.declared.table.GoalTable.{GoalTable}
 use Rattle.infer_goals.specs.Obligations.{AreKept, HasAllOpen}
 use Rattle.infer_result.specs.Needs.{needed_goals}

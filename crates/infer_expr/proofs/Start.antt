@@ -10,7 +10,7 @@ use Rattle.hir_raw.specs.declared.raw.RawExpr.{RawExpr}
 use Rattle.hir_raw.specs.declared.raw.RawFacts.{RawFacts}
 use Rattle.hir_facts.specs.Bodies.{body_of}
 use Rattle.hir_facts.specs.Lawful.{IsLawful}
-use Rattle.infer_goals.specs.Below.{ItemSources, IsSystemOf, Obligation}
+use Rattle.infer_goals.specs.Words.{ItemSources, IsSystemOf, Obligation}
 use Rattle.goal_search.specs.Sources.{system}
 use Rattle.infer_goals.specs.Stays.{IsUnused}
 use Rattle.infer_goals.proofs.Counting.{none_counted}

@@ -1,19 +1,9 @@
 -- What is kept of obligations is kept of their copy.
 use Rattle.std.proofs.Common.{◌≡◌, inl, inr, ℕ, ◌<◌, ◌≤◌, length, sym, ◌∙◌, subst}
 use Rattle.std.specs.Prelude.{Some, slice_get}
-use Rattle.hir_raw.specs.declared.raw.RawFacts.{RawFacts}
-use Rattle.infer_table.specs.Table.{State}
-use Rattle.goal_answers.specs.Answers.{answers}
-use Rattle.goal_answers.specs.Goals.{System}
-use Rattle.goal_facts.specs.Goals.{asked_goal}
-use Rattle.goal_select.specs.Steps.{known_goal}
-use Rattle.goal_tree.specs.Trees.{IsOpenAt}
-use Rattle.goal_tree.specs.Right.{HasRightly}
-use Rattle.goal_tree.proofs.Copying.{copied_source, copied_tree}
-use Rattle.infer_goals.specs.declared.obligations.Obligations.{Obligations}
-use Rattle.infer_goals.specs.Sleepers.{IsAmong, Sleeps, ListsHoles}
-use Rattle.infer_goals.specs.Obligations.{AreKept, IsAsleep, HasAllOf, HasAllOpen}
-use Rattle.infer_goals.specs.Copying.{IsCopied}
+use Rattle.infer_goals.specs.Words.{RawFacts, State, answers, System, asked_goal, known_goal, IsOpenAt, HasRightly}
+use Rattle.infer_goals.proofs.Words.{copied_source, copied_tree}
+use Rattle.infer_goals.specs.Own.{Obligations, IsAmong, Sleeps, ListsHoles, AreKept, IsAsleep, HasAllOf, HasAllOpen, IsCopied}
 
 module _ (f : System) (o u : Obligations) (same : IsCopied o u) where
   pub copied_kept : (raw : RawFacts) (s : State) → u.selected ≤ raw.limits.goal_steps → AreKept raw f s o → AreKept raw f s u

@@ -1,17 +1,10 @@
 -- Under a bound what was selected is counted.
 use Rattle.std.proofs.Common.{◌≡◌, ◌∙◌, ◌⊎◌, inl, inr, ◌+◌, ◌≤◌, ◌<◌, ℕ, zero, suc, refl, sym, ap, subst, arith, true≢false, List, [], ◌∷◌, ◌++◌, length, Option, Some, None, slice_get, Bool, true, false, if◌then◌else◌}
 use Rattle.std.proofs.lemmas.Option.{slice_get_past}
-use Rattle.hir_raw.specs.declared.raw.RawFacts.{RawFacts}
-use Rattle.infer_table.specs.Table.{State}
-use Rattle.goal_answers.specs.Goals.{System}
-use Rattle.goal_facts.specs.declared.proof.ProofSource.{ProofSource}
-use Rattle.goal_tree.specs.declared.obligation.Obligation.{Obligation}
-use Rattle.goal_tree.specs.declared.obligation.Standing.{Standing}
+use Rattle.infer_goals.specs.Words.{RawFacts, State, System, ProofSource, Obligation, Standing, GoalTree, IsTree, opens}
 use Rattle.goal_tree.specs.declared.obligation.Standing.TheVariants as standing
-use Rattle.goal_tree.specs.declared.tree.GoalTree.{GoalTree}
-use Rattle.goal_tree.specs.Trees.{HasSource, IsTree, opens}
-use Rattle.infer_goals.specs.declared.obligations.Obligations.{Obligations}
-use Rattle.infer_goals.specs.Obligations.{IsStep, AreSteps, Went, has_source, sourced, AreCounted}
+use Rattle.goal_tree.specs.Trees.{HasSource}
+use Rattle.infer_goals.specs.Own.{Obligations, IsStep, AreSteps, Went, has_source, sourced, AreCounted}
 
 -- ---- counts of two lists that have sources at the same numbers, or at one more
 

@@ -3,26 +3,10 @@ use Rattle.std.proofs.Common.{◌≡◌, inl, inr, ℕ, ◌+◌, ◌-◌, ◌≤
 use Rattle.std.specs.Prelude.{Some, slice_get}
 use Rattle.std.proofs.lemmas.Option.{same_Some}
 use Rattle.std.proofs.lemmas.List.{length-map, drop_at, take_all, drop-append-le, take-append-le}
-use Rattle.hir_types.specs.declared.ids.ExprOrPatId.{ExprOrPatId}
-use Rattle.hir_types.specs.declared.goal.Goal.{Goal}
-use Rattle.hir_raw.specs.declared.raw.RawFacts.{RawFacts}
-use Rattle.infer_table.specs.Table.{State, Meets, IsFront}
-use Rattle.goal_answers.specs.Reading.{Fill, IsFilling, Aliases}
-use Rattle.goal_answers.specs.Goals.{Asked, System, Each}
-use Rattle.goal_answers.specs.Answers.{answers}
-use Rattle.goal_facts.specs.declared.proof.ProofSource.{ProofSource}
-use Rattle.goal_facts.specs.Proofs.{filled_goal, IsSource}
-use Rattle.goal_facts.proofs.Systems.{each_get}
-use Rattle.goal_select.specs.Steps.{GoalIsOf}
-use Rattle.goal_tree.specs.declared.obligation.Obligation.{Obligation}
-use Rattle.goal_tree.specs.declared.tree.GoalTree.{GoalTree}
-use Rattle.goal_tree.specs.Trees.{HasSource, IsTree, asked_by, IsAsked}
-use Rattle.goal_tree.specs.Right.{filled_goals, HasRightly, IsRight}
-use Rattle.goal_tree.proofs.Growing.{source_back, asked_grows}
-use Rattle.goal_tree.proofs.Standings.{back_get, mapped_get, push_get}
-use Rattle.infer_goals.specs.declared.obligations.Obligations.{Obligations}
-use Rattle.infer_goals.specs.Obligations.{IsStep, AreKept}
-use Rattle.infer_goals.specs.Kept.{meets_earlier, goal_later}
+use Rattle.infer_goals.specs.Words.{ExprOrPatId, Goal, RawFacts, State, Meets, IsFront, Fill, IsFilling, Aliases, Asked, System, Each, answers, ProofSource, filled_goal, IsSource, GoalIsOf, Obligation, GoalTree, IsTree, asked_by, IsAsked, filled_goals, HasRightly, IsRight}
+use Rattle.infer_goals.proofs.Words.{each_get, source_back, asked_grows, back_get, mapped_get, get_more as push_get}
+use Rattle.goal_tree.specs.Trees.{HasSource}
+use Rattle.infer_goals.specs.Own.{Obligations, IsStep, AreKept, meets_earlier, goal_later}
 use Rattle.infer_goals.proofs.Lists.{append_get}
 use Rattle.infer_goals.proofs.Later.{later_get, source_one}
 

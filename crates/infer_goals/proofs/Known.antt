@@ -3,28 +3,11 @@ use Rattle.std.proofs.Common.{◌≡◌, ℕ, suc, ◌≤◌, true, List, [], �
 use Rattle.std.specs.Prelude.{Some, slice_get}
 use Rattle.std.proofs.lemmas.Bool.{false_from_ne_true}
 use Rattle.std.proofs.lemmas.List.{map-append}
-use Rattle.hir_types.specs.declared.goal.Goal.{Goal}
+use Rattle.infer_goals.specs.Words.{Goal, Hole, TraitRef, out-TraitRef, goal_replaced, Assignment, with_holes, trait_replaced, trait_replaced_is, Term, pair, apply, occurs, terms_of, term_folded, Binding, bound_hole, solution, solution_apply, resolved_append, resolved_fixed, binds_found, found_place, resolution, resolution_terms, resolved, binds, entry, Free, State, bindings, Grew, apply_agree, Asked, implements, projects, asked_at, trait_goal, asked_goal, known_goal}
 use Rattle.hir_types.specs.declared.goal.Goal.TheVariants as goal
-use Rattle.hir_types.specs.declared.head.Hole.{Hole}
-use Rattle.hir_types.specs.declared.ty.TraitRef.{TraitRef, out-TraitRef}
-use Rattle.hir_types.specs.Goals.{goal_replaced}
-use Rattle.hir_types.specs.Subst.{Assignment, with_holes, trait_replaced}
-use Rattle.hir_types.specs.Replacements.{trait_replaced_is}
-use Rattle.hir_types.specs.Terms.{Term, pair, apply, occurs, terms_of}
-use Rattle.hir_types.specs.TermLaws.{term_folded}
-use Rattle.infer_table.specs.declared.binding.Binding.{Binding}
-use Rattle.infer_table.specs.declared.binding.Binding.TheVariants as binding
-use Rattle.infer_table.specs.Bindings.{bound_hole}
-use Rattle.infer_table.specs.LogLemmas.{solution, solution_apply, resolved_append, resolved_fixed, binds_found, found_place}
-use Rattle.infer_table.specs.Resolution.{resolution, resolution_terms}
-use Rattle.infer_table.specs.Solutions.{resolved, binds, entry, log_of, Free}
-use Rattle.infer_table.specs.Table.{State, bindings, Grew}
-use Rattle.infer_table.specs.TermLemmas.{apply_agree}
-use Rattle.goal_answers.specs.Goals.{Asked, implements, projects, asked_at}
-use Rattle.goal_facts.specs.Goals.{trait_goal, asked_goal}
-use Rattle.goal_select.specs.Steps.{known_goal}
-use Rattle.goal_select.proofs.Known.{args_folded}
-use Rattle.goal_tree.proofs.Standings.{mapped_get}
+use Rattle.infer_goals.specs.Words.infer_table.declared.binding.Binding.TheVariants as binding
+use Rattle.infer_goals.specs.Words.infer_table.Solutions.{log_of}
+use Rattle.infer_goals.proofs.Words.{args_folded, mapped_get}
 
 -- ---- what is known put in
 

@@ -2,14 +2,10 @@
 use Rattle.std.proofs.Common.{◌≡◌, inl, inr, ℕ, ◌<◌, ◌≤◌, length, sym, ap, ◌∙◌, subst, arith, length-append}
 use Rattle.std.specs.Prelude.{Some, slice_get}
 use Rattle.std.proofs.lemmas.Option.{same_Some, slice_get_within}
-use Rattle.goal_facts.specs.declared.proof.Proof.{Proof}
-use Rattle.goal_facts.specs.declared.proof.ProofSource.{ProofSource}
-use Rattle.goal_tree.specs.declared.obligation.Obligation.{Obligation}
-use Rattle.goal_tree.specs.declared.obligation.Standing.{Standing}
+use Rattle.infer_goals.specs.Words.{Proof, ProofSource, Obligation, Standing, GoalTree, IsOpenAt, IsTree, IsLater}
 use Rattle.goal_tree.specs.declared.obligation.Standing.TheVariants as standing
-use Rattle.goal_tree.specs.declared.tree.GoalTree.{GoalTree}
-use Rattle.goal_tree.specs.Trees.{IsOpenAt, HasSource, IsTree, IsLater}
-use Rattle.goal_tree.proofs.Standings.{front_get, open_selected, open_proved, selected_proved, same_standing}
+use Rattle.goal_tree.specs.Trees.{HasSource}
+use Rattle.infer_goals.proofs.Words.{get_left as front_get, open_selected, open_proved, selected_proved, same_standing}
 use Rattle.infer_goals.proofs.Lists.{get_within}
 
 -- ---- obligations

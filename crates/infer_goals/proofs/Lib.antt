@@ -13,3 +13,4 @@ pub mod Steps
 pub mod Trying
 pub mod Undoing
 pub mod Waking
+pub mod Words

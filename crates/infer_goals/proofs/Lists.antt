@@ -3,8 +3,8 @@ use Rattle.std.proofs.Common.{◌≡◌, ◌⊎◌, inl, inr, ℕ, zero, suc, �
 use Rattle.std.specs.Prelude.{Some, slice_get}
 use Rattle.std.specs.List.{range_with_len}
 use Rattle.std.proofs.lemmas.Option.{same_Some}
-use Rattle.goal_tree.proofs.Standings.{front_get}
-use Rattle.infer_goals.specs.Obligations.{IsAmong, AreAmongEither}
+use Rattle.infer_goals.proofs.Words.{get_left as front_get}
+use Rattle.infer_goals.specs.Own.{IsAmong, AreAmongEither}
 
 -- ---- which stand in them
 

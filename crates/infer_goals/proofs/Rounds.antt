@@ -2,20 +2,9 @@
 use Rattle.std.proofs.Common.{◌≡◌, inl, inr, ℕ, ◌-◌, ◌<◌, ◌≤◌, Bool, true, false, List, [], ◌∷◌, length, refl, sym, ap, ◌∙◌, subst, arith}
 use Rattle.std.specs.Prelude.{Some, slice_get}
 use Rattle.std.specs.List.{range_with_len}
-use Rattle.hir_raw.specs.declared.raw.RawFacts.{RawFacts}
-use Rattle.infer_table.specs.Table.{State, Meets}
-use Rattle.infer_table.proofs.HoleLaws.{grew_twice, grew_by_nothing}
-use Rattle.goal_answers.specs.Answers.{answers}
-use Rattle.goal_answers.specs.Reading.{Fill, IsFilling}
-use Rattle.goal_answers.specs.Goals.{System}
-use Rattle.goal_select.specs.Steps.{GoalIsOf}
-use Rattle.goal_tree.specs.declared.obligation.Obligation.{Obligation}
-use Rattle.goal_tree.specs.declared.tree.GoalTree.{GoalTree}
-use Rattle.goal_tree.specs.Right.{IsRight}
-use Rattle.goal_tree.specs.Trees.{IsTree}
-use Rattle.infer_goals.specs.declared.obligations.Obligations.{Obligations}
-use Rattle.infer_goals.specs.declared.sleepers.Sleepers.{Sleepers}
-use Rattle.infer_goals.specs.Obligations.{AreSteps, Went, Stays, AreKept, KeepsOpen, AreUsedUp, AreSettled, NoneLeft, HasAllOf, HasAllSince, HasAllOpen, WakesAll, SleepsAll, AreThere, EndsRound}
+use Rattle.infer_goals.specs.Words.{RawFacts, State, Meets, answers, Fill, IsFilling, System, GoalIsOf, Obligation, GoalTree, IsRight, IsTree}
+use Rattle.infer_goals.proofs.Words.{grew_twice, grew_by_nothing}
+use Rattle.infer_goals.specs.Own.{Obligations, Sleepers, AreSteps, Went, Stays, AreKept, KeepsOpen, AreUsedUp, AreSettled, NoneLeft, HasAllOf, HasAllSince, HasAllOpen, WakesAll, SleepsAll, AreThere, EndsRound}
 use Rattle.infer_goals.proofs.Later.{later_long}
 use Rattle.infer_goals.proofs.Sleeping.{all_settled, none_awake, open_of_all}
 use Rattle.infer_goals.proofs.Steps.{went_none, went_then, went_grew, went_later}

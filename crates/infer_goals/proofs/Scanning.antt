@@ -3,14 +3,8 @@ use Rattle.std.proofs.Common.{◌≡◌, ◌⊎◌, inl, inr, ℕ, ◌-◌, ◌<
 use Rattle.std.specs.Prelude.{Some, slice_get, if◌then◌else◌}
 use Rattle.std.specs.List.{range_with_len}
 use Rattle.std.proofs.lemmas.Option.{slice_get_within}
-use Rattle.hir_raw.specs.declared.raw.RawFacts.{RawFacts}
-use Rattle.infer_table.specs.Table.{State}
-use Rattle.goal_answers.specs.Goals.{System}
-use Rattle.goal_tree.specs.declared.obligation.Obligation.{Obligation}
-use Rattle.goal_tree.specs.declared.tree.GoalTree.{GoalTree}
-use Rattle.goal_tree.specs.Trees.{IsOpenAt, IsTree, IsLater}
-use Rattle.infer_goals.specs.declared.obligations.Obligations.{Obligations}
-use Rattle.infer_goals.specs.Obligations.{Stays, IsAmong, AreBelow, AreAt, ScansOpen, IsSettled, AreUsedUp, AreSettled, AreLower, new_numbers, StaysSettled, IsTried, IsVisited, AreScanned}
+use Rattle.infer_goals.specs.Words.{RawFacts, State, System, Obligation, GoalTree, IsOpenAt, IsTree, IsLater}
+use Rattle.infer_goals.specs.Own.{Obligations, Stays, IsAmong, AreBelow, AreAt, ScansOpen, IsSettled, AreUsedUp, AreSettled, AreLower, new_numbers, StaysSettled, IsTried, IsVisited, AreScanned}
 use Rattle.infer_goals.proofs.Lists.{get_within, All, all_map, all_left, all_append, all_one, all_last, at_among, among_either, among_left, among_right, among_last, among_one, among_range, in_range}
 use Rattle.infer_goals.proofs.Later.{later_get, later_long, open_within, open_before}
 use Rattle.infer_goals.proofs.Steps.{went_then, went_later, stays_then}

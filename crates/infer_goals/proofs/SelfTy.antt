@@ -1,20 +1,10 @@
 -- What is listed for a hole, one obligation after another.
 use Rattle.std.proofs.Common.{◌≡◌, inl, inr, ℕ, suc, ◌+◌, ◌-◌, ◌≤◌, true, false, Bool, List, [], ◌∷◌, ◌++◌, length, refl, sym, ap, subst, ◌∙◌, append_assoc, append-nil, arith}
 use Rattle.std.specs.Prelude.{Some, slice_get}
-use Rattle.hir_types.specs.declared.goal.Goal.{Goal}
-use Rattle.hir_types.specs.declared.ty.Ty.{Ty}
-use Rattle.infer_table.specs.Table.{State}
-use Rattle.goal_answers.specs.Goals.{System}
-use Rattle.goal_search.specs.declared.answer.Answer.{Answer}
-use Rattle.goal_search.specs.declared.answer.Answer.TheVariants as answer_of
-use Rattle.goal_facts.specs.Goals.{asked_goal, IsAnswer}
-use Rattle.goal_tree.specs.declared.obligation.Obligation.{Obligation}
-use Rattle.goal_tree.specs.declared.obligation.Standing.{Standing}
+use Rattle.infer_goals.specs.Words.{Goal, Ty, State, System, Answer, asked_goal, IsAnswer, Obligation, Standing, GoalTree, IsTree, is_pending}
+use Rattle.infer_goals.specs.Words.goal_search.declared.answer.Answer.TheVariants as answer_of
 use Rattle.goal_tree.specs.declared.obligation.Standing.TheVariants as standing_of
-use Rattle.goal_tree.specs.declared.tree.GoalTree.{GoalTree}
-use Rattle.goal_tree.specs.Trees.{IsTree, is_pending}
-use Rattle.infer_goals.specs.Told.{resolved_goal}
-use Rattle.infer_goals.specs.SelfTy.{IsAbout, IsListedIfAbout, AreOfAll, Adds, children, IsListedAs, AreListed, AreListedIf, IsListedPending, levels}
+use Rattle.infer_goals.specs.Own.{resolved_goal, IsAbout, IsListedIfAbout, AreOfAll, Adds, children, IsListedAs, AreListed, AreListedIf, IsListedPending, levels}
 
 -- ---- lists put together
 

@@ -1,12 +1,7 @@
 -- Obligations of one depth and those below it, which are settled in turn until nothing selects any.
 use Rattle.std.proofs.Common.{◌≡◌, ◌⊎◌, inl, inr, ℕ, suc, ◌<◌, ◌≤◌, Bool, List, ◌++◌, length, sym, subst, arith}
-use Rattle.hir_raw.specs.declared.raw.RawFacts.{RawFacts}
-use Rattle.infer_table.specs.Table.{State}
-use Rattle.goal_answers.specs.Goals.{System}
-use Rattle.goal_tree.specs.declared.tree.GoalTree.{GoalTree}
-use Rattle.goal_tree.specs.Trees.{IsOpenAt, IsTree, IsLater}
-use Rattle.infer_goals.specs.declared.obligations.Obligations.{Obligations}
-use Rattle.infer_goals.specs.Obligations.{Went, AreKept, IsAmong, AreWithin, AreBelow, AreAt, AreThere, KeepsOpen, AreAmongEither, ScansOpen, AreSettled, AreScanned}
+use Rattle.infer_goals.specs.Words.{RawFacts, State, System, GoalTree, IsOpenAt, IsTree, IsLater}
+use Rattle.infer_goals.specs.Own.{Obligations, Went, AreKept, IsAmong, AreWithin, AreBelow, AreAt, AreThere, KeepsOpen, AreAmongEither, ScansOpen, AreSettled, AreScanned}
 use Rattle.infer_goals.proofs.Lists.{get_within, all_map, all_append, among_left, among_right}
 use Rattle.infer_goals.proofs.Later.{later_long, open_within, open_before}
 use Rattle.infer_goals.proofs.Steps.{went_none, went_then, went_later, stays_itself}

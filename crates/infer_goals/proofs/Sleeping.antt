@@ -4,23 +4,10 @@ use Rattle.std.specs.Prelude.{Some, slice_get}
 use Rattle.std.specs.List.{range_with_len}
 use Rattle.std.proofs.lemmas.List.{length_push}
 use Rattle.std.proofs.lemmas.Option.{same_Some, slice_get_within}
-use Rattle.hir_types.specs.declared.head.Hole.{Hole}
-use Rattle.hir_types.specs.Terms.{occurs, hole_number}
-use Rattle.hir_raw.specs.declared.raw.RawFacts.{RawFacts}
-use Rattle.infer_table.specs.Table.{State, bindings, new_state, Grew}
-use Rattle.goal_answers.specs.Goals.{Asked, System}
-use Rattle.goal_answers.specs.Selecting.{Selects}
-use Rattle.goal_facts.specs.Goals.{asked_goal}
-use Rattle.goal_select.specs.Steps.{known_goal}
-use Rattle.goal_tree.specs.declared.obligation.Obligation.{Obligation}
+use Rattle.infer_goals.specs.Words.{Hole, occurs, hole_number, RawFacts, State, bindings, new_state, Grew, Asked, System, Selects, asked_goal, known_goal, Obligation, GoalTree, IsOpenAt, IsTree, IsLater, IsAsked}
 use Rattle.goal_tree.specs.declared.obligation.Standing.TheVariants as standing
-use Rattle.goal_tree.specs.declared.tree.GoalTree.{GoalTree}
-use Rattle.goal_tree.specs.Trees.{IsOpenAt, IsTree, IsLater, IsAsked}
-use Rattle.goal_tree.proofs.Growing.{asked_grows}
-use Rattle.infer_goals.specs.declared.obligations.Obligations.{Obligations}
-use Rattle.infer_goals.specs.declared.sleepers.Sleepers.{Sleepers}
-use Rattle.infer_goals.specs.Obligations.{AreKept, AreWithin, KeepsOpen, IsSettled, IsListedByHoles, IsAsleep, HasAllOf, HasAllOpen, FallAsleep}
-use Rattle.infer_goals.specs.Sleepers.{IsAmong, IsListed, KeepsListed, ListsHoles, Sleeps, FallsAsleep, AreWoken, IsStirred}
+use Rattle.infer_goals.proofs.Words.{asked_grows}
+use Rattle.infer_goals.specs.Own.{Obligations, Sleepers, AreKept, AreWithin, KeepsOpen, IsSettled, IsListedByHoles, IsAsleep, HasAllOf, HasAllOpen, FallAsleep, IsAmong, IsListed, KeepsListed, ListsHoles, Sleeps, FallsAsleep, AreWoken, IsStirred}
 use Rattle.infer_goals.proofs.Known.{known_later}
 use Rattle.infer_goals.proofs.Later.{later_get, later_long, open_within, open_before}
 use Rattle.infer_goals.proofs.Lists.{get_within, among_either, among_left, among_last, among_one, among_range, in_range}

@@ -1,14 +1,8 @@
 -- Steps of selection, one list of them after another.
 use Rattle.std.proofs.Common.{◌≡◌, ℕ, ◌+◌, Bool, true, false, List, [], ◌∷◌, ◌++◌, length, refl, sym, ap, ◌∙◌, subst, arith, length-append}
-use Rattle.hir_raw.specs.declared.raw.RawFacts.{RawFacts}
-use Rattle.infer_table.specs.Table.{State, Grew}
-use Rattle.infer_table.proofs.HoleLaws.{grew_twice, grew_by_nothing}
-use Rattle.goal_answers.specs.Goals.{System}
-use Rattle.goal_tree.specs.declared.tree.GoalTree.{GoalTree}
-use Rattle.goal_tree.specs.Trees.{IsLater}
-use Rattle.goal_tree.proofs.Proving.{later_then, proved_none}
-use Rattle.infer_goals.specs.declared.obligations.Obligations.{Obligations}
-use Rattle.infer_goals.specs.Obligations.{IsStep, AreSteps, counted, Went, Stays}
+use Rattle.infer_goals.specs.Words.{RawFacts, State, Grew, System, GoalTree, IsLater}
+use Rattle.infer_goals.proofs.Words.{grew_twice, grew_by_nothing, later_then, proved_none}
+use Rattle.infer_goals.specs.Own.{Obligations, IsStep, AreSteps, counted, Went, Stays}
 
 -- ---- counting
 

@@ -2,20 +2,9 @@
 use Rattle.std.proofs.Common.{◌≡◌, ◌⊎◌, inl, inr, ℕ, zero, suc, ◌-◌, ◌<◌, ◌≤◌, Bool, true, false, List, [], map, refl, sym, ap, ◌∙◌, subst, arith}
 use Rattle.std.specs.Prelude.{Option, Some, slice_get, IsTrue}
 use Rattle.std.proofs.lemmas.Option.{same_Some, slice_get_within}
-use Rattle.hir_types.specs.declared.ids.ExprOrPatId.{ExprOrPatId}
-use Rattle.hir_types.specs.declared.goal.Goal.{Goal}
-use Rattle.hir_raw.specs.declared.raw.RawFacts.{RawFacts}
-use Rattle.infer_table.specs.Table.{State}
-use Rattle.goal_answers.specs.Goals.{System}
-use Rattle.goal_answers.specs.Selecting.{IsDeep}
-use Rattle.goal_select.specs.declared.select.Selected.{Selected}
-use Rattle.goal_select.specs.Steps.{IsSelected, IsSelectedIf}
-use Rattle.goal_tree.specs.declared.obligation.Obligation.{Obligation}
-use Rattle.goal_tree.specs.declared.tree.GoalTree.{GoalTree}
-use Rattle.goal_tree.specs.Trees.{IsOpenAt, IsTree, IsSelectedBy, asked_by}
-use Rattle.goal_tree.proofs.Standings.{mapped_get}
-use Rattle.infer_goals.specs.declared.obligations.Obligations.{Obligations}
-use Rattle.infer_goals.specs.Obligations.{IsStep, counted, Went, AreKept, AreUsedUp, AreLower}
+use Rattle.infer_goals.specs.Words.{ExprOrPatId, Goal, RawFacts, State, System, IsDeep, Selected, IsSelected, IsSelectedIf, Obligation, GoalTree, IsOpenAt, IsTree, IsSelectedBy, asked_by}
+use Rattle.infer_goals.proofs.Words.{mapped_get}
+use Rattle.infer_goals.specs.Own.{Obligations, IsStep, counted, Went, AreKept, AreUsedUp, AreLower}
 use Rattle.infer_goals.proofs.Kept.{kept_step}
 use Rattle.infer_goals.proofs.Lists.{append_get}
 use Rattle.infer_goals.proofs.Steps.{went_one}

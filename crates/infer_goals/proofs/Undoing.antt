@@ -1,16 +1,7 @@
 -- What is kept of the goals is kept where all is gone back.
 use Rattle.std.proofs.Common.{◌≡◌, Bool, ℕ, ◌≤◌, List, [], sym, ◌∙◌, ap, subst, append-nil}
-use Rattle.infer_table.specs.declared.snapshot.Snapshot.{Snapshot}
-use Rattle.infer_table.specs.Table.{State, IsFront, IsBack, Grew, IsTakenIn, Undoes}
-use Rattle.infer_table.specs.Waiting.{Waiting}
-use Rattle.goal_search.specs.Sources.{system}
-use Rattle.goal_facts.specs.Goals.{ItemSources}
-use Rattle.infer_goals.specs.declared.obligations.Obligations.{Obligations}
-use Rattle.infer_goals.specs.declared.table.GoalTable.{GoalTable}
-use Rattle.infer_goals.specs.Copying.{IsCopied}
-use Rattle.infer_goals.specs.Kept.{kept_grows, all_grows}
-use Rattle.infer_goals.specs.Obligations.{AreKept, HasAllOpen}
-use Rattle.infer_goals.specs.Undo.{GoesOn, GoesBack}
+use Rattle.infer_goals.specs.Words.{Snapshot, State, IsFront, IsBack, Grew, IsTakenIn, Undoes, Waiting, system, ItemSources}
+use Rattle.infer_goals.specs.Own.{Obligations, GoalTable, IsCopied, kept_grows, all_grows, AreKept, HasAllOpen, GoesOn, GoesBack}
 use Rattle.infer_goals.proofs.Copying.{copied_kept, copied_all}
 
 front_same : {X : Type 0} (xs ys : List X) → ys ≡ xs → IsFront xs ys

@@ -4,14 +4,9 @@ use Rattle.std.specs.Prelude.{Some, None, option_map, slice_get, slice_set}
 use Rattle.std.proofs.lemmas.Bool.{cases_lt, or_cases}
 use Rattle.std.proofs.lemmas.List.{get_or_past, length_push}
 use Rattle.std.proofs.lemmas.Option.{same_Some, slice_get_within}
-use Rattle.hir_types.specs.declared.head.Head.{Head}
-use Rattle.hir_types.specs.declared.head.Hole.{Hole}
-use Rattle.hir_types.specs.Terms.{Term, hole, leaf, pair, occurs, hole_number}
-use Rattle.infer_table.specs.declared.binding.Binding.{Binding}
-use Rattle.infer_table.specs.Bindings.{bound_hole}
-use Rattle.infer_table.specs.TermLemmas.{hole_eq_true}
+use Rattle.infer_goals.specs.Words.{Head, Hole, Term, hole, leaf, pair, occurs, hole_number, Binding, bound_hole, hole_eq_true}
 use Rattle.goal_tree.proofs.Standings.{same_or_not}
-use Rattle.infer_goals.specs.Sleepers.{IsAmong, IsListed, KeepsListed, ListsHoles, Sleeps, FallsAsleep, AreWoken, IsStirredAt, IsStirred}
+use Rattle.infer_goals.specs.Own.{IsAmong, IsListed, KeepsListed, ListsHoles, Sleeps, FallsAsleep, AreWoken, IsStirredAt, IsStirred}
 use Rattle.infer_goals.proofs.Lists.{among_either, among_left, among_last, among_one}
 
 -- one more that is what stands for those that are missing

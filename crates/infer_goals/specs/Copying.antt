@@ -1,6 +1,6 @@
 -- Copies of obligations.
 use Rattle.std.specs.Prelude.{◌≡◌}
-use Rattle.goal_tree.specs.Trees.{IsCopied as IsTreeCopied}
+use Rattle.infer_goals.specs.Words.{IsCopied as IsTreeCopied}
 use Rattle.infer_goals.specs.declared.obligations.Obligations.{Obligations}
 use Rattle.infer_goals.specs.declared.sleepers.Sleepers.{Sleepers}
 

@@ -2,17 +2,8 @@
 use Rattle.std.specs.Prelude.{List, ◌++◌}
 use Rattle.std.proofs.Common.{sym, ap, ◌∙◌, subst, append_assoc}
 use Rattle.std.proofs.lemmas.List.{map-append}
-use Rattle.hir_types.specs.declared.goal.Goal.{Goal}
-use Rattle.hir_types.specs.declared.head.HoleKind.{HoleKind}
-use Rattle.hir_raw.specs.declared.raw.RawFacts.{RawFacts}
-use Rattle.infer_table.specs.declared.binding.Binding.{Binding}
-use Rattle.infer_table.specs.LogLemmas.{solves_left, are_of_more}
-use Rattle.infer_table.specs.Solutions.{Log, log_of, Solves, AreOf}
-use Rattle.infer_table.specs.Table.{State, bindings, Meets, IsFront, Grew}
-use Rattle.goal_answers.specs.Reading.{Fill}
-use Rattle.goal_answers.specs.Goals.{System}
-use Rattle.goal_facts.specs.Goals.{asked_goal}
-use Rattle.goal_select.specs.Steps.{GoalIsOf}
+use Rattle.infer_goals.specs.Words.{Goal, HoleKind, RawFacts, Binding, solves_left, are_of_more, Log, Solves, AreOf, State, bindings, Meets, IsFront, Grew, Fill, System, asked_goal, GoalIsOf}
+use Rattle.infer_goals.specs.Words.infer_table.Solutions.{log_of}
 use Rattle.infer_goals.specs.declared.obligations.Obligations.{Obligations}
 use Rattle.infer_goals.specs.Obligations.{AreKept, HasAllOpen}
 

@@ -6,4 +6,5 @@ pub mod Sleepers
 pub mod Stays
 pub mod Told
 pub mod Undo
-pub mod Below
+pub mod Words
+pub mod Own

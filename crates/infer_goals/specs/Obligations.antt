@@ -1,21 +1,8 @@
 -- Goals that were registered: what selects them, step after step, and which are left.
 use Rattle.std.specs.Prelude.{◌≡◌, ◌⊎◌, ◌≤◌, ◌<◌, ◌+◌, ◌-◌, ◌++◌, ℕ, suc, if◌then◌else◌, Bool, true, false, IsTrue, List, [], ◌∷◌, length, slice_get, Some}
 use Rattle.std.specs.List.{range_with_len}
-use Rattle.hir_raw.specs.declared.raw.RawFacts.{RawFacts}
-use Rattle.infer_table.specs.Table.{State, Meets, Grew, bindings}
-use Rattle.goal_answers.specs.Reading.{Fill, IsFilling}
-use Rattle.goal_answers.specs.Goals.{System}
-use Rattle.goal_answers.specs.Answers.{answers}
-use Rattle.goal_answers.specs.Selecting.{Choice, Selects}
-use Rattle.goal_facts.specs.Goals.{asked_goal}
-use Rattle.goal_select.specs.declared.select.Selected.{Selected}
-use Rattle.goal_select.specs.Steps.{known_goal, GoalIsOf, IsSelected}
-use Rattle.goal_tree.specs.declared.obligation.Obligation.{Obligation}
-use Rattle.goal_tree.specs.declared.obligation.Standing.{Standing}
+use Rattle.infer_goals.specs.Words.{RawFacts, State, Meets, Grew, bindings, Fill, IsFilling, System, answers, Choice, Selects, asked_goal, Selected, known_goal, GoalIsOf, IsSelected, Obligation, Standing, GoalTree, IsTree, IsOpenAt, IsSelectedBy, IsRight}
 use Rattle.goal_tree.specs.declared.obligation.Standing.TheVariants as standing
-use Rattle.goal_tree.specs.declared.tree.GoalTree.{GoalTree}
-use Rattle.goal_tree.specs.Trees.{IsTree, IsOpenAt, IsSelectedBy}
-use Rattle.goal_tree.specs.Right.{IsRight}
 use Rattle.infer_goals.specs.declared.obligations.Obligations.{Obligations}
 use Rattle.infer_goals.specs.declared.sleepers.Sleepers.{Sleepers}
 use Rattle.infer_goals.specs.Sleepers.{Sleeps, KeepsListed, ListsHoles}

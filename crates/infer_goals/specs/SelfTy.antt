@@ -1,22 +1,11 @@
 -- Which goals a hole waits for: those about it that aren't answered Yes.
 use Rattle.std.specs.Prelude.{◌≡◌, ◌⊎◌, ◌+◌, ◌++◌, ℕ, zero, suc, Bool, true, false, List, [], ◌∷◌, length, slice_get, Some}
-use Rattle.hir_types.specs.declared.goal.Goal.{Goal}
+use Rattle.infer_goals.specs.Words.{Goal, GenericArg, out-TraitRef, Ty, State, resolved_type, System, Answer, asked_goal, IsAnswer, Obligation, Standing, GoalTree, is_pending}
 use Rattle.hir_types.specs.declared.goal.Goal.TheVariants as goal
-use Rattle.hir_types.specs.declared.ty.GenericArg.{GenericArg}
 use Rattle.hir_types.specs.declared.ty.GenericArg.TheVariants as arg
-use Rattle.hir_types.specs.declared.ty.TraitRef.{out-TraitRef}
-use Rattle.hir_types.specs.declared.ty.Ty.{Ty}
 use Rattle.hir_types.specs.declared.ty.Ty.TheVariants as ty
-use Rattle.infer_table.specs.Table.{State, resolved_type}
-use Rattle.goal_answers.specs.Goals.{System}
-use Rattle.goal_search.specs.declared.answer.Answer.{Answer}
-use Rattle.goal_search.specs.declared.answer.Answer.TheVariants as answer_of
-use Rattle.goal_facts.specs.Goals.{asked_goal, IsAnswer}
-use Rattle.goal_tree.specs.declared.obligation.Obligation.{Obligation}
-use Rattle.goal_tree.specs.declared.obligation.Standing.{Standing}
+use Rattle.infer_goals.specs.Words.goal_search.declared.answer.Answer.TheVariants as answer_of
 use Rattle.goal_tree.specs.declared.obligation.Standing.TheVariants as standing_of
-use Rattle.goal_tree.specs.declared.tree.GoalTree.{GoalTree}
-use Rattle.goal_tree.specs.Trees.{is_pending}
 use Rattle.infer_goals.specs.Told.{resolved_goal}
 
 -- ---- one goal

@@ -1,9 +1,6 @@
 -- Obligations that sleep on the holes of their goals, and which of them are woken.
 use Rattle.std.specs.Prelude.{◌≡◌, ◌⊎◌, ◌≤◌, ◌<◌, ℕ, true, false, Bool, List, [], length, get_or, slice_get, Some}
-use Rattle.hir_types.specs.declared.head.Hole.{Hole}
-use Rattle.hir_types.specs.Terms.{Term, occurs, hole_number}
-use Rattle.infer_table.specs.declared.binding.Binding.{Binding}
-use Rattle.infer_table.specs.Bindings.{bound_hole}
+use Rattle.infer_goals.specs.Words.{Hole, Term, occurs, hole_number, Binding, bound_hole}
 
 -- ---- lists of numbers
 

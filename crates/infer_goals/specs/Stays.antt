@@ -1,11 +1,7 @@
 -- What stays of a table of goals while holes are made and bound.
 use Rattle.std.specs.Prelude.{◌≡◌, true, [], refl}
 use Rattle.std.proofs.Common.{sym, ap, ◌∙◌, subst}
-use Rattle.hir_types.specs.declared.ids.GenericDefId.{GenericDefId}
-use Rattle.hir_raw.specs.declared.raw.RawFacts.{RawFacts}
-use Rattle.infer_table.specs.Table.{State, Grew}
-use Rattle.goal_search.specs.Sources.{system}
-use Rattle.goal_facts.specs.Goals.{ItemSources}
+use Rattle.infer_goals.specs.Words.{GenericDefId, RawFacts, State, Grew, system, ItemSources}
 use Rattle.infer_goals.specs.declared.obligations.Obligations.{Obligations}
 use Rattle.infer_goals.specs.declared.table.GoalTable.{GoalTable}
 use Rattle.infer_goals.specs.Kept.{kept_grows, all_grows}

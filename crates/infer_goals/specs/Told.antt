@@ -1,9 +1,5 @@
 -- The goals that a table of goals tells of.
-use Rattle.hir_types.specs.declared.goal.Goal.{Goal}
-use Rattle.hir_types.specs.Subst.{with_holes}
-use Rattle.hir_types.specs.Goals.{goal_replaced}
-use Rattle.infer_table.specs.Table.{State, bindings}
-use Rattle.infer_table.specs.Resolution.{resolution}
+use Rattle.infer_goals.specs.Words.{Goal, with_holes, goal_replaced, State, bindings, resolution}
 
 -- the goal with what is known of its holes
 abbrev pub resolved_goal : State → Goal → Goal

@@ -1,8 +1,6 @@
 -- What trying a closure on a table of goals comes to.
 use Rattle.std.specs.Prelude.{◌≡◌, ◌≤◌, Result, Ok, Err}
-use Rattle.infer_table.specs.Table.{Grew}
-use Rattle.infer_table.specs.Undo.{GoesBack as HolesGoBack}
-use Rattle.goal_search.specs.Sources.{system}
+use Rattle.infer_goals.specs.Words.{Grew, GoesBack as HolesGoBack, system}
 use Rattle.infer_goals.specs.declared.table.GoalTable.{GoalTable}
 use Rattle.infer_goals.specs.Copying.{IsCopied}
 use Rattle.infer_goals.specs.Obligations.{AreKept, HasAllOpen}

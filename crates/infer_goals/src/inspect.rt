@@ -1,9 +1,8 @@
 //! Who is told of the goals that inference meets.
 ghost use Rattle.std.specs.Prelude.{◌≡◌, ◌++◌, ◌∷◌, [], List, OnOk};
-ghost use Rattle.hir_types.specs.declared.goal.Goal.{Goal};
-ghost use Rattle.goal_search.specs.declared.answer.Answer.{Answer};
+ghost use Rattle.infer_goals.specs.Words.{Goal, Answer};
 
-use goal_facts::{Answer, Goal};
+use goal_select::goal_facts::{Answer, Goal};
 use std::alloc::{AllocError, Global};
 
 /// Is told of each goal that inference evaluates, with its answer, as `infer.rs`'s

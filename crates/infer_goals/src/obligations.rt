@@ -2,17 +2,14 @@
 //! `select_obligations_where_possible`. What nothing selects sleeps until more is known of its holes.
 ghost use Rattle.std.specs.Prelude.{◌≡◌, ◌↔◌, ◌++◌, ◌-◌, ◌≤◌, ◌<◌, ◌^◌, ◌∷◌, [], true, false, length, IfOk, OnOk, IsTrue};
 ghost use Rattle.std.specs.List.{range_with_len};
-ghost use Rattle.goal_answers.specs.Goals.{System};
-ghost use Rattle.goal_search.specs.Sources.{system};
-ghost use Rattle.goal_tree.specs.Trees.{IsTree, IsOpenAt, registered, IsAsked};
-ghost use Rattle.infer_goals.specs.Obligations.{AreKept, AreWithin, AreBelow, AreAt, HasAllOpen, HasAllAnyhow, HasAllSince, KeepsAllOpen, WakesAll, SleepsAll, FallAsleep, AreThere, EndsRound, AreUsedUp, AreSettled, NoneLeft, Went, counted, KeepsOpen, AreAmongEither, AreScanned, AreLower, new_numbers, IsTried, IsVisited};
-ghost use Rattle.infer_goals.specs.Copying.{IsCopied};
+ghost use Rattle.infer_goals.specs.Words.{System, system, IsTree, IsOpenAt, registered, IsAsked};
+ghost use Rattle.infer_goals.specs.Own.{AreKept, AreWithin, AreBelow, AreAt, HasAllOpen, HasAllAnyhow, HasAllSince, KeepsAllOpen, WakesAll, SleepsAll, FallAsleep, AreThere, EndsRound, AreUsedUp, AreSettled, NoneLeft, Went, counted, KeepsOpen, AreAmongEither, AreScanned, AreLower, new_numbers, IsTried, IsVisited, IsCopied};
 
 use crate::sleepers::Sleepers;
-use goal_facts::{ExprOrPatId, Goal, ItemSources, asked};
+use goal_select::goal_facts::{ExprOrPatId, Goal, ItemSources, asked};
+use goal_select::infer_table::InferenceTable;
 use goal_select::{Selected, select_goal};
 use goal_tree::GoalTree;
-use infer_table::InferenceTable;
 use std::alloc::{AllocError, Global};
 
 /// Lets an obligation sleep on each hole of its goal, with what is known of them.

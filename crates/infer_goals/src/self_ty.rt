@@ -1,13 +1,12 @@
 //! Goals whose self type is a hole: `infer/unify.rs`, `NestedObligationsForSelfTy`.
 ghost use Rattle.std.specs.Prelude.{◌≡◌, ◌↔◌, ◌+◌, ◌≤◌, ◌<◌, length, IfOk, OnOk, IsTrue};
-ghost use Rattle.goal_search.specs.Sources.{system};
-ghost use Rattle.goal_tree.specs.Trees.{IsTree};
-ghost use Rattle.infer_goals.specs.SelfTy.{IsHole, IsAbout, IsListedIfAbout, children, HasChildren, Adds, AreListed, IsListedPending, AreOfAll};
+ghost use Rattle.infer_goals.specs.Words.{system, IsTree};
+ghost use Rattle.infer_goals.specs.Own.{IsHole, IsAbout, IsListedIfAbout, children, HasChildren, Adds, AreListed, IsListedPending, AreOfAll};
 
 use crate::obligations::Obligations;
-use goal_facts::{Answer, GenericArg, Goal, ItemSources, TraitRef, Ty};
+use goal_select::goal_facts::{Answer, GenericArg, Goal, ItemSources, TraitRef, Ty};
+use goal_select::infer_table::InferenceTable;
 use goal_tree::Standing;
-use infer_table::InferenceTable;
 use std::alloc::AllocError;
 
 /// How many levels of the tree of goals are looked at, the pending goals being the first.

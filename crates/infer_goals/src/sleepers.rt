@@ -2,16 +2,12 @@
 //! fulfillment context that `infer/unify.rs` asks in `select_obligations_where_possible`. One that sleeps is
 //! asked again only when a hole in it is bound.
 ghost use Rattle.std.specs.Prelude.{◌≡◌, ◌<◌, ◌++◌, ◌∷◌, [], length, get_or, slice_set, IfOk, OnOk};
-ghost use Rattle.hir_types.specs.Terms.{hole_number};
-ghost use Rattle.goal_terms.specs.Terms.{term_of};
-ghost use Rattle.infer_table.specs.Table.{bindings};
-ghost use Rattle.infer_goals.specs.Obligations.{IsAmong};
-ghost use Rattle.infer_goals.specs.Sleepers.{HasRoom, IsListed, KeepsListed, ListsHoles, FallsAsleep, AreWoken, IsStirredAt, IsStirred};
-ghost use Rattle.infer_goals.specs.Copying.{AreCopied};
+ghost use Rattle.infer_goals.specs.Words.{hole_number, term_of, bindings};
+ghost use Rattle.infer_goals.specs.Own.{IsAmong, HasRoom, IsListed, KeepsListed, ListsHoles, FallsAsleep, AreWoken, IsStirredAt, IsStirred, AreCopied};
 
-use goal_terms::Term;
+use goal_select::goal_terms::Term;
+use goal_select::infer_table::InferenceTable;
 use hir_types::{Hole, List};
-use infer_table::InferenceTable;
 use std::alloc::{AllocError, Global};
 
 fn number(hole: Hole) -> usize
@@ -56,7 +52,7 @@ fn push_hole(
 }
 
 /// Adds an obligation to those that sleep on each hole of the term.
-#[tactic(auto, using(goal_terms::specs::Terms::term_is))]
+#[tactic(auto, using(crate::specs::Words::term_is))]
 fn push_holes(
     alloc: Global,
     lists: &mut Vec<List<usize>>,

@@ -1,23 +1,13 @@
 //! The goals that inference of a body meets.
 ghost use Rattle.std.specs.Prelude.{◌≡◌, ◌↔◌, ◌++◌, ◌∷◌, [], true, IsTrue, IfOk, OnOk};
-ghost use Rattle.hir_types.specs.Terms.{term};
-ghost use Rattle.infer_table.specs.Table.{new_state, resolved_type};
-ghost use Rattle.goal_search.specs.Sources.{system};
-ghost use Rattle.goal_search.specs.Sized.{IsSizedAt};
-ghost use Rattle.goal_answers.specs.Answers.{answers};
-ghost use Rattle.goal_facts.specs.Goals.{asked_goal, IsAnswer};
-ghost use Rattle.goal_facts.specs.Proofs.{AreProofsUnder};
-ghost use Rattle.goal_facts.specs.Reading.{IsReadOrItself, IsTypeRead};
-ghost use Rattle.goal_facts.specs.Systems.{IsSystemOf};
-ghost use Rattle.goal_select.specs.Steps.{GoalIsOf};
-ghost use Rattle.goal_tree.specs.Trees.{registered, IsAsked, pending_of};
-ghost use Rattle.infer_goals.specs.Told.{resolved_goal};
-ghost use Rattle.infer_goals.specs.Obligations.{AreKept, HasAllOpen, NoneLeft, Went, BoundMore};
-ghost use Rattle.infer_goals.specs.SelfTy.{AreForSelfTy};
+ghost use Rattle.infer_goals.specs.Words.{term, new_state, resolved_type, system, IsSizedAt, answers, asked_goal, IsAnswer, AreProofsUnder, IsReadOrItself, IsTypeRead, IsSystemOf, GoalIsOf, registered, IsAsked, pending_of};
+ghost use Rattle.infer_goals.specs.Own.{resolved_goal, AreKept, HasAllOpen, NoneLeft, Went, BoundMore, AreForSelfTy};
 
 use crate::obligations::Obligations;
-use goal_facts::{Answer, ExprOrPatId, Facts, GenericDefId, Goal, ItemSources, Proof, Ty};
-use infer_table::InferenceTable;
+use goal_select::goal_facts::{
+    Answer, ExprOrPatId, Facts, GenericDefId, Goal, ItemSources, Proof, Ty,
+};
+use goal_select::infer_table::InferenceTable;
 use std::alloc::{AllocError, Global};
 
 /// The goals that inference of a body meets, with the table of its holes.

@@ -1,17 +1,13 @@
 //! Going back with the goals: `infer/unify.rs`, `snapshot`, `rollback_to`, `commit_if_ok`.
 ghost use Rattle.std.specs.Prelude.{◌≡◌, IfOk, OnOk};
 ghost use Rattle.std.specs.Fn.{FnOnceTakesAtMut, FnOnceReturnsAtMut};
-ghost use Rattle.infer_table.specs.Table.{IsTakenIn, GrewFrom, Undoes};
-ghost use Rattle.goal_search.specs.Sources.{system};
-ghost use Rattle.infer_goals.specs.declared.table.GoalTable.{GoalTable};
-ghost use Rattle.infer_goals.specs.Copying.{IsCopied};
-ghost use Rattle.infer_goals.specs.Obligations.{AreKept, HasAllOpen};
-ghost use Rattle.infer_goals.specs.Undo.{GoesOn, KeepsGoals, CommitsIfOk};
+ghost use Rattle.infer_goals.specs.Words.{IsTakenIn, GrewFrom, Undoes, system};
+ghost use Rattle.infer_goals.specs.Own.{GoalTable, IsCopied, AreKept, HasAllOpen, GoesOn, KeepsGoals, CommitsIfOk};
 
 use crate::obligations::Obligations;
 use crate::table::GoalTable;
-use goal_facts::{ExprOrPatId, Ty};
-use infer_table::Snapshot;
+use goal_select::goal_facts::{ExprOrPatId, Ty};
+use goal_select::infer_table::Snapshot;
 use std::alloc::AllocError;
 
 /// A state of a table of goals that can be gone back to: copies of what may change.

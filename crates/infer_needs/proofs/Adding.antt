@@ -1,21 +1,11 @@
 -- Proofs and entries that are added behind others.
 use Rattle.std.specs.Prelude.{◌≡◌, ◌++◌, ℕ, List, slice_get, Some}
 use Rattle.std.proofs.Common.{sym, ap, ◌∙◌, subst, append_assoc}
-use Rattle.hir_types.specs.declared.ids.TypeAliasId.{TypeAliasId}
+use Rattle.infer_needs.specs.Words.{TypeAliasId, GenericArg, Ty, RawFacts, IsFront, Asked, System, Proof, asked_goal, AddsProofs, IsListedAs, HasEntry}
 use Rattle.hir_types.specs.declared.goal.Goal.TheVariants as goal
-use Rattle.hir_types.specs.declared.ty.GenericArg.{GenericArg}
-use Rattle.hir_types.specs.declared.ty.Ty.{Ty}
 use Rattle.hir_types.specs.declared.ty.Ty.TheVariants as ty
-use Rattle.hir_raw.specs.declared.raw.RawFacts.{RawFacts}
-use Rattle.infer_table.specs.Table.{IsFront}
-use Rattle.infer_table.proofs.BindingLaws.{get_left}
-use Rattle.infer_table.proofs.UndoLaws.{front_itself}
-use Rattle.goal_answers.specs.Goals.{Asked, System}
-use Rattle.goal_facts.specs.declared.proof.Proof.{Proof}
-use Rattle.goal_facts.specs.Goals.{asked_goal}
-use Rattle.goal_prove.specs.Entries.{AddsProofs}
-use Rattle.infer_result.specs.Projections.{IsListedAs, HasEntry}
-use Rattle.infer_needs.specs.Judged.{HasProofOf, AreEntries, AddsEntries}
+use Rattle.infer_needs.proofs.Words.{get_left, front_itself}
+use Rattle.infer_needs.specs.Own.{HasProofOf, AreEntries, AddsEntries}
 
 -- ---- proofs that are added
 

@@ -2,21 +2,9 @@
 use Rattle.std.specs.Prelude.{◌≡◌, ℕ, zero, suc, Bool, true, false, ◌&&◌, ◌||◌, List, [], ◌∷◌, ◌++◌, map, slice_get, Some, None, refl}
 use Rattle.std.specs.List.{list_all, list_any}
 use Rattle.std.proofs.Common.{sym, ap, ◌∙◌, subst, true≢false}
-use Rattle.hir_types.specs.declared.ty.AliasBound.{AliasBound}
-use Rattle.hir_types.specs.declared.ty.Const.{Const}
+use Rattle.infer_needs.specs.Words.{AliasBound, Const, GenericArg, GenericArg-F, map-GenericArg, roll-GenericArg, out-GenericArg, roll-out-GenericArg, TraitRef, Ty, Ty-F, map-Ty, ind-Ty, roll-Ty, out-Ty, roll-out-Ty, arg_as_type, IsClosed, hole_const, hole_arg, hole_step, hole_bound, hole_trait, Steps, folds, folds_follow, in_arg, in_ty, Term, chain, const_term, type_part, arg_step, ty_step, term, arg_term, terms, term_at, arg_term_at, term_error, Scope, fits_arg, fits_bound, fits_trait, fits_step, ty_fits, IsWritten, item_args}
 use Rattle.hir_types.specs.declared.ty.Const.TheVariants as const
-use Rattle.hir_types.specs.declared.ty.GenericArg.{GenericArg, GenericArg-F, map-GenericArg, roll-GenericArg, out-GenericArg, roll-out-GenericArg}
-use Rattle.hir_types.specs.declared.ty.TraitRef.{TraitRef}
-use Rattle.hir_types.specs.declared.ty.Ty.{Ty, Ty-F, map-Ty, ind-Ty, roll-Ty, out-Ty, roll-out-Ty}
-use Rattle.hir_types.specs.Assigned.{arg_as_type, type_of}
-use Rattle.hir_types.specs.Erasure.{IsClosed, hole_const, hole_arg, hole_step, hole_bound, hole_trait}
-use Rattle.hir_types.specs.Folds.{Steps, folds, folds_follow, in_arg, in_ty}
-use Rattle.hir_types.specs.Terms.{Term, chain, const_term, type_part, arg_step, ty_step, term, arg_term}
-use Rattle.hir_types.specs.TermLaws.{terms, term_at, arg_term_at, term_error}
-use Rattle.hir_raw.specs.Scope.{Scope}
-use Rattle.hir_raw.specs.Fit.{fits_arg, fits_bound, fits_trait, fits_step, ty_fits}
-use Rattle.goal_prove.specs.Written.{IsWritten}
-use Rattle.infer_result.specs.Needs.{item_args}
+use Rattle.hir_types.specs.Assigned.{type_of}
 
 -- ---- tests
 

@@ -1,12 +1,9 @@
 -- Where entries come from, as more are added.
 use Rattle.std.specs.Prelude.{◌++◌, ℕ, List}
 use Rattle.std.proofs.Common.{inl, inr}
-use Rattle.hir_types.specs.declared.ids.GenericDefId.{GenericDefId}
-use Rattle.hir_types.specs.declared.ty.Ty.{Ty}
-use Rattle.hir_raw.specs.declared.raw.RawFacts.{RawFacts}
-use Rattle.infer_table.proofs.BindingLaws.{get_left}
-use Rattle.goal_answers.specs.Goals.{Asked, System}
-use Rattle.infer_needs.specs.Judged.{IsSaidBy, ComeFrom, FitOrAreSaid}
+use Rattle.infer_needs.specs.Words.{GenericDefId, Ty, RawFacts, Asked, System}
+use Rattle.infer_needs.proofs.Words.{get_left}
+use Rattle.infer_needs.specs.Own.{IsSaidBy, ComeFrom, FitOrAreSaid}
 use Rattle.infer_needs.proofs.Rooted.{one_right}
 
 said_left : (f : System) (n : ℕ) (xs ys : List Asked) (x : Ty × Ty) → IsSaidBy f n xs x → IsSaidBy f n (xs ++ ys) x

@@ -1,36 +1,13 @@
 -- Entries that were read of types that fit, or that nodes' needs say, fit; and so do the gaps.
 use Rattle.std.specs.Prelude.{◌≡◌, ◌⊎◌, ℕ, zero, suc, List, length, slice_get, Some, refl}
 use Rattle.std.proofs.Common.{inl, inr, sym, subst}
-use Rattle.hir_types.specs.declared.ids.DefWithBodyId.{DefWithBodyId}
-use Rattle.hir_types.specs.declared.ids.ExprOrPatId.{ExprOrPatId}
+use Rattle.infer_needs.specs.Words.{DefWithBodyId, ExprOrPatId, TypeAliasId, GenericArg, Ty, term, term_projection, RawBody, RawFacts, Scope, scope_of, generic_params, body_of, IsLawful, Asked, System, Each, asked_goal, Proof, IsSystemOf, Gap, InferenceResult, with_goals, scope_item, needs_at, pat_needs_at, node_needs, IsNeeded, IsTrueGap, HasGap, GoalReads, stays_at, IsTableOf, given}
 use Rattle.hir_types.specs.declared.ids.ExprOrPatId.TheVariants as node
-use Rattle.hir_types.specs.declared.ids.TypeAliasId.{TypeAliasId}
 use Rattle.hir_types.specs.declared.goal.Goal.TheVariants as goal
-use Rattle.hir_types.specs.declared.ty.GenericArg.{GenericArg}
-use Rattle.hir_types.specs.declared.ty.Ty.{Ty}
 use Rattle.hir_types.specs.declared.ty.Ty.TheVariants as ty
-use Rattle.hir_types.specs.Terms.{term}
-use Rattle.hir_types.specs.TermLaws.{term_projection}
-use Rattle.hir_raw.specs.declared.raw.RawBody.{RawBody}
-use Rattle.hir_raw.specs.declared.raw.RawFacts.{RawFacts}
-use Rattle.hir_raw.specs.Scope.{Scope, scope_of, generic_params}
-use Rattle.hir_facts.specs.Bodies.{body_of}
-use Rattle.hir_facts.specs.Lawful.{IsLawful}
-use Rattle.goal_answers.specs.Goals.{Asked, System, Each}
-use Rattle.goal_facts.specs.Goals.{asked_goal}
-use Rattle.goal_facts.specs.declared.proof.Proof.{Proof}
-use Rattle.goal_facts.specs.Systems.{IsSystemOf}
-use Rattle.goal_facts.proofs.Systems.{each_append, each_get}
-use Rattle.infer_result.specs.declared.gaps.Gap.{Gap}
+use Rattle.infer_needs.proofs.Words.{each_append, each_get}
 use Rattle.infer_result.specs.declared.gaps.Gap.TheVariants as gap
-use Rattle.infer_result.specs.declared.result.InferenceResult.{InferenceResult}
-use Rattle.infer_result.specs.Needs.{with_goals, scope_item, needs_at, pat_needs_at, node_needs, IsNeeded, IsTrueGap, HasGap}
-use Rattle.infer_result.specs.Projections.{GoalReads, stays_at}
-use Rattle.infer_result.specs.Typed.{IsTableOf, given}
-use Rattle.infer_needs.specs.Fits.{IsFitType, IsFitGap, EntriesFit}
-use Rattle.infer_needs.specs.FitTerms.{Fits, GoalIsFit, EntryFitsIn}
-use Rattle.infer_needs.specs.Judged.{IsProvable, IsEntry, AreEntries, IsSaidBy, FitOrAreSaid}
-use Rattle.infer_needs.specs.Told.{first_needs, first_pat_needs, all_needs}
+use Rattle.infer_needs.specs.Own.{IsFitType, IsFitGap, EntriesFit, Fits, GoalIsFit, EntryFitsIn, IsProvable, IsEntry, AreEntries, IsSaidBy, FitOrAreSaid, first_needs, first_pat_needs, all_needs}
 use Rattle.infer_needs.proofs.FitNeeds.{needs_fit, goal_reads_fit}
 use Rattle.infer_needs.proofs.FitTypes.{fit_type, fit_alias, fit_goal}
 use Rattle.infer_needs.proofs.Provable.{same_scope, node_provable}

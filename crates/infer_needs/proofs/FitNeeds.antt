@@ -1,61 +1,19 @@
 -- Goals that the nodes of a typed body need fit, and so does what these read as.
 use Rattle.std.specs.Prelude.{◌≡◌, ◌<◌, ◌+◌, ◌==◌, ℕ, zero, suc, true, List, [], ◌∷◌, length, map, slice_get, Option, Some, None, option_map, refl}
 use Rattle.std.proofs.Common.{arith, sym, ap, ◌∙◌, subst, true≢false}
-use Rattle.hir_types.specs.declared.ids.DefWithBodyId.{DefWithBodyId}
-use Rattle.hir_types.specs.declared.ids.ExprOrPatId.{ExprOrPatId}
+use Rattle.infer_needs.specs.Words.{DefWithBodyId, ExprOrPatId, GenericDefId, TypeAliasId, TypeRefId, AliasBound, GenericArg, GenericArg-F, out-GenericArg, roll-out-GenericArg, TraitRef, Ty, Ty-F, out-Ty, roll-out-Ty, arg_as_type, in_arg, in_ty, Term, hole, leaf, pair, chain, arg_step, ty_step, term, arg_term, terms, term_at, arg_term_at, term_error, RawAdt, RawBody, RawExpr, RawFacts, RawFn, RawGoal, RawPath, RawTrait, RawType, RawVariant, arg_types, fn_aliases, variant_aliases, scope_of, params_of, adt_params, alias_params, alias_params_by, has_params, count_or_none, generic_params, AllHold, GoalExists, AliasIdsExist, params_in, wrongs_in, wrong_args, IsLawful, adt_ids, fn_ids, fns_fit, variants_fit, plain, role, ReadsAs, Kind, implements, projects, Asked, System, Each, answers, args_at, goal_at, preds_or_none, IsSystemOf, InferenceResult, alias_goals_by, alias_goals_from, fn_alias_goals, variant_alias_goals, path_alias_goals, alias_goals, variant_preds, path_preds, expr_preds, item_args, item_path, needed_goals, needs_of, pat_needs_by, pat_needs_of, node_needs, GoalReads, recorded, IsTableOf, width}
 use Rattle.hir_types.specs.declared.ids.ExprOrPatId.TheVariants as node
-use Rattle.hir_types.specs.declared.ids.GenericDefId.{GenericDefId}
-use Rattle.hir_types.specs.declared.ids.TypeAliasId.{TypeAliasId}
-use Rattle.hir_types.specs.declared.ids.TypeRefId.{TypeRefId}
 use Rattle.hir_types.specs.declared.head.Head.TheVariants as head
-use Rattle.hir_types.specs.declared.ty.AliasBound.{AliasBound}
-use Rattle.hir_types.specs.declared.ty.GenericArg.{GenericArg, GenericArg-F, out-GenericArg, roll-out-GenericArg}
-use Rattle.hir_types.specs.declared.ty.TraitRef.{TraitRef}
-use Rattle.hir_types.specs.declared.ty.Ty.{Ty, Ty-F, out-Ty, roll-out-Ty}
-use Rattle.hir_types.specs.Assigned.{arg_as_type, type_of}
-use Rattle.hir_types.specs.Folds.{in_arg, in_ty}
-use Rattle.hir_types.specs.Terms.{Term, hole, leaf, pair, chain, arg_step, ty_step, term, arg_term}
-use Rattle.hir_types.specs.TermLaws.{terms, term_at, arg_term_at, term_error}
-use Rattle.hir_raw.specs.declared.raw.RawAdt.{RawAdt}
-use Rattle.hir_raw.specs.declared.raw.RawBody.{RawBody}
-use Rattle.hir_raw.specs.declared.raw.RawExpr.{RawExpr}
-use Rattle.hir_raw.specs.declared.raw.RawExpr.TheVariants as expr
-use Rattle.hir_raw.specs.declared.raw.RawFacts.{RawFacts}
-use Rattle.hir_raw.specs.declared.raw.RawFn.{RawFn}
-use Rattle.hir_raw.specs.declared.raw.RawGoal.{RawGoal}
-use Rattle.hir_raw.specs.declared.raw.RawGoal.TheVariants as goal
-use Rattle.hir_raw.specs.declared.raw.RawPath.{RawPath}
-use Rattle.hir_raw.specs.declared.raw.RawPath.TheVariants as path
-use Rattle.hir_raw.specs.declared.raw.RawTrait.{RawTrait}
-use Rattle.hir_raw.specs.declared.raw.RawType.{RawType}
-use Rattle.hir_raw.specs.declared.raw.RawType.TheVariants as type
-use Rattle.hir_raw.specs.declared.raw.RawVariant.{RawVariant}
-use Rattle.hir_raw.specs.Goals.{arg_types}
-use Rattle.hir_raw.specs.Hidden.{fn_aliases, variant_aliases}
-use Rattle.hir_raw.specs.Scope.{scope_of, params_of, adt_params, alias_params, alias_params_by, has_params, count_or_none, generic_params}
-use Rattle.hir_facts.specs.Entries.{AllHold}
-use Rattle.hir_facts.specs.GoalIds.{GoalExists, AliasIdsExist}
-use Rattle.hir_facts.specs.Counts as counts
-use Rattle.hir_facts.specs.Standing.{params_in, wrongs_in, wrong_args}
-use Rattle.hir_facts.specs.Lawful.{IsLawful}
-use Rattle.hir_facts.specs.LawfulFacts.{adt_ids, fn_ids, fns_fit, variants_fit}
-use Rattle.goal_answers.specs.Reading.{Role, plain, role, ReadsAs}
-use Rattle.goal_answers.specs.Goals.{Kind, implements, projects, Asked, System, Each}
-use Rattle.goal_answers.specs.Answers.{answers}
-use Rattle.goal_answers.proofs.Readings.{ReadsBy}
-use Rattle.goal_facts.specs.Arguments.{args_at, goal_at}
-use Rattle.goal_facts.specs.Environment.{preds_or_none}
-use Rattle.goal_facts.specs.Systems.{IsSystemOf}
-use Rattle.goal_facts.proofs.Systems.{each_append}
-use Rattle.infer_result.specs.declared.result.InferenceResult.{InferenceResult}
-use Rattle.infer_result.specs.AliasNeeds.{alias_goals_by, alias_goals_from, fn_alias_goals, variant_alias_goals, path_alias_goals, alias_goals}
-use Rattle.infer_result.specs.Needs.{variant_preds, path_preds, expr_preds, item_args, item_path, needed_goals, needs_of, pat_needs_by, pat_needs_of, node_needs}
-use Rattle.infer_result.specs.Projections.{GoalReads}
-use Rattle.infer_result.specs.Table.{recorded}
-use Rattle.infer_result.specs.Typed.{IsTableOf}
-use Rattle.infer_table.specs.Preserved.{width}
+use Rattle.hir_types.specs.Assigned.{type_of}
+use Rattle.infer_needs.specs.Words.hir_raw.declared.raw.RawExpr.TheVariants as expr
+use Rattle.infer_needs.specs.Words.hir_raw.declared.raw.RawGoal.TheVariants as goal
+use Rattle.infer_needs.specs.Words.hir_raw.declared.raw.RawPath.TheVariants as path
+use Rattle.infer_needs.specs.Words.hir_raw.declared.raw.RawType.TheVariants as type
+use Rattle.infer_needs.specs.Words.hir_facts.Counts as counts
+use Rattle.infer_needs.specs.Words.goal_answers.Reading.{Role}
+use Rattle.infer_needs.proofs.Words.{ReadsBy, each_append}
 use Rattle.infer_needs.proofs.Closed.{both}
-use Rattle.infer_needs.specs.FitTerms.{are_types, takes, is_fit, Fits, AskedFits, GoalIsFit}
+use Rattle.infer_needs.specs.Own.{are_types, takes, is_fit, Fits, AskedFits, GoalIsFit}
 use Rattle.infer_needs.proofs.FitTerms.{type_same}
 use Rattle.infer_needs.proofs.FitSources.{GoalIsCounted, both_true, alias_counted, type_fits_at, args_fit_at, args_are_types, args_taken, adts_fit, goal_counted}
 use Rattle.infer_needs.proofs.NoPlaceholders.{IsFree, parts_free, own_free, fn_free, variant_free}

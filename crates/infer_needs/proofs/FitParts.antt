@@ -2,26 +2,10 @@
 use Rattle.std.specs.Prelude.{◌≡◌, ℕ, zero, suc, true, List, [], ◌∷◌, map, slice_get, Some}
 use Rattle.std.proofs.Common.{inl, inr, sym, ap, ◌∙◌, subst, true≢false}
 use Rattle.std.proofs.lemmas.Option.{same_Some}
-use Rattle.hir_types.specs.declared.goal.Goal.{Goal}
+use Rattle.infer_needs.specs.Words.{Goal, GenericDefId, TypeAliasId, GenericArg, Ty, Term, hole, leaf, pair, chain, term, arg_term, term_projection, RawFacts, alias_params, has_params, generic_params, IsLawful, width, Kind, implements, projects, Asked, System, alias, role, alias_at, asked_goal, TypeReads, IsSystemOf, IsPartOf}
 use Rattle.hir_types.specs.declared.head.Head.TheVariants as head
-use Rattle.hir_types.specs.declared.ids.GenericDefId.{GenericDefId}
-use Rattle.hir_types.specs.declared.ids.TypeAliasId.{TypeAliasId}
-use Rattle.hir_types.specs.declared.ty.GenericArg.{GenericArg}
-use Rattle.hir_types.specs.declared.ty.Ty.{Ty}
 use Rattle.hir_types.specs.declared.ty.Ty.TheVariants as ty
-use Rattle.hir_types.specs.Terms.{Term, hole, leaf, pair, chain, term, arg_term}
-use Rattle.hir_types.specs.TermLaws.{term_projection}
-use Rattle.hir_raw.specs.declared.raw.RawFacts.{RawFacts}
-use Rattle.hir_raw.specs.Scope.{alias_params, has_params, generic_params}
-use Rattle.hir_facts.specs.Lawful.{IsLawful}
-use Rattle.infer_table.specs.Preserved.{width}
-use Rattle.goal_answers.specs.Goals.{Kind, implements, projects, Asked, System}
-use Rattle.goal_answers.specs.Reading.{alias, role, alias_at}
-use Rattle.goal_facts.specs.Goals.{asked_goal}
-use Rattle.goal_facts.specs.Reading.{TypeReads}
-use Rattle.goal_facts.specs.Systems.{IsSystemOf}
-use Rattle.infer_result.specs.Projections.{IsPartOf}
-use Rattle.infer_needs.specs.FitTerms.{are_types, takes, is_fit, Fits, AskedFits, FitsIn, GoalFitsIn, GoalsFitIn, TakesThese, AliasesFitIn, AliasFitsHere, EntryFitsIn}
+use Rattle.infer_needs.specs.Own.{are_types, takes, is_fit, Fits, AskedFits, FitsIn, GoalFitsIn, GoalsFitIn, TakesThese, AliasesFitIn, AliasFitsHere, EntryFitsIn}
 use Rattle.infer_needs.proofs.Closed.{both}
 use Rattle.infer_needs.proofs.FitSources.{both_true}
 use Rattle.infer_needs.proofs.ReadsFit.{split, role_alias, reads_fit}

@@ -1,43 +1,14 @@
 -- What goals, impls and bounds are written with fits at arguments that do: what is named takes as many arguments as it is given.
 use Rattle.std.specs.Prelude.{◌≡◌, ◌+◌, ◌==◌, ℕ, zero, suc, max, Bool, true, false, ◌&&◌, if◌then◌else◌, List, [], ◌∷◌, length, map, slice_get, Option, Some, None, option_map, refl}
 use Rattle.std.proofs.Common.{arith, sym, ap, ◌∙◌, subst}
-use Rattle.hir_types.specs.declared.ids.GenericDefId.{GenericDefId}
+use Rattle.infer_needs.specs.Words.{GenericDefId, TraitId, TypeRefId, GenericArg, with_params, replaced_error, replaced, term_error, Term, chain, type_part, term, most, RawAdt, RawAlias, RawAssocType, RawFn, RawGoal, RawImpl, RawTrait, RawType, RawFacts, arg_types, adt_params, alias_params, has_params, filled_within, AllHold, GoalFits, GoalsFit, AdtFits, TraitFits, AliasFits, ImplFits, most_by, most_within, wrong_count, wrong_alias_count, wrong_args, params_in, wrongs_in, IsLawful, fns_fit, width, type_at, args_at, preds_or_none, trait_preds, env_trait, preds_of_trait, env_preds}
 use Rattle.hir_types.specs.declared.ids.GenericDefId.TheVariants as generic
-use Rattle.hir_types.specs.declared.ids.TraitId.{TraitId}
-use Rattle.hir_types.specs.declared.ids.TypeRefId.{TypeRefId}
 use Rattle.hir_types.specs.declared.ty.IntegerTy.TheVariants.{Int, Uint}
-use Rattle.hir_types.specs.declared.ty.GenericArg.{GenericArg}
 use Rattle.hir_types.specs.declared.ty.Ty.TheVariants as ty
-use Rattle.hir_types.specs.Assigned.{with_params}
-use Rattle.hir_types.specs.Replacements.{replaced_error}
-use Rattle.hir_types.specs.Subst.{replaced}
-use Rattle.hir_types.specs.TermLaws.{term_error}
-use Rattle.hir_types.specs.Terms.{Term, chain, type_part, term}
-use Rattle.hir_types.specs.Types.{most}
-use Rattle.hir_raw.specs.declared.raw.RawAdt.{RawAdt}
-use Rattle.hir_raw.specs.declared.raw.RawAlias.{RawAlias}
-use Rattle.hir_raw.specs.declared.raw.RawAssocType.{RawAssocType}
-use Rattle.hir_raw.specs.declared.raw.RawFn.{RawFn}
-use Rattle.hir_raw.specs.declared.raw.RawGoal.{RawGoal}
-use Rattle.hir_raw.specs.declared.raw.RawGoal.TheVariants as goal
-use Rattle.hir_raw.specs.declared.raw.RawImpl.{RawImpl}
-use Rattle.hir_raw.specs.declared.raw.RawTrait.{RawTrait}
-use Rattle.hir_raw.specs.declared.raw.RawType.{RawType}
-use Rattle.hir_raw.specs.declared.raw.RawType.TheVariants as type
-use Rattle.hir_raw.specs.declared.raw.RawFacts.{RawFacts}
-use Rattle.hir_raw.specs.Goals.{arg_types}
-use Rattle.hir_raw.specs.Scope.{adt_params, alias_params, has_params}
-use Rattle.hir_raw.specs.WrittenTypes.{filled_within}
-use Rattle.hir_facts.specs.Entries.{AllHold}
-use Rattle.hir_facts.specs.Counts.{GoalFits, GoalsFit, AdtFits, TraitFits, AliasFits, ImplFits}
-use Rattle.hir_facts.specs.Standing.{most_by, most_within, wrong_count, wrong_alias_count, wrong_args, params_in, wrongs_in}
-use Rattle.hir_facts.specs.Lawful.{IsLawful}
-use Rattle.hir_facts.specs.LawfulFacts.{fns_fit}
-use Rattle.infer_table.specs.Preserved.{width}
-use Rattle.goal_facts.specs.Arguments.{type_at, args_at}
-use Rattle.goal_facts.specs.Environment.{preds_or_none, trait_preds, env_trait, preds_of_trait, env_preds}
-use Rattle.goal_facts.proofs.Written.{parts_by, layer, layer_is, args_are}
-use Rattle.infer_needs.specs.FitTerms.{are_types, takes, is_fit, Fits}
+use Rattle.infer_needs.specs.Words.hir_raw.declared.raw.RawGoal.TheVariants as goal
+use Rattle.infer_needs.specs.Words.hir_raw.declared.raw.RawType.TheVariants as type
+use Rattle.infer_needs.proofs.Words.{parts_by, layer, layer_is, args_are}
+use Rattle.infer_needs.specs.Own.{are_types, takes, is_fit, Fits}
 use Rattle.infer_needs.proofs.NoPlaceholders.{none_in}
 
 -- the arguments in the type are as many as they have to be

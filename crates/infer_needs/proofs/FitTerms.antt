@@ -2,21 +2,9 @@
 use Rattle.std.specs.Prelude.{◌≡◌, ℕ, suc, Bool, true, false, ◌&&◌, nat_lt, List, [], ◌∷◌, ◌++◌, length, map, Option, Some, None, refl}
 use Rattle.std.specs.List.{flat_map, list_all}
 use Rattle.std.proofs.Common.{sym, ap, ap₂, ◌∙◌, subst}
-use Rattle.hir_types.specs.declared.ids.TraitId.{TraitId}
-use Rattle.hir_types.specs.declared.ty.AliasBound.{AliasBound}
-use Rattle.hir_types.specs.declared.ty.Const.{Const}
+use Rattle.infer_needs.specs.Words.{TraitId, AliasBound, Const, GenericArg, GenericArg-F, out-GenericArg, roll-out-GenericArg, TraitRef, Ty, Ty-F, Maps, GoBySteps, folds, folds_follow, in_arg, in_ty, unique, Term, pair, chain, type_part, const_part, arg_step, ty_step, term, arg_term, trait_parts, bound_parts, auto_parts, terms, term_at, arg_term_at, trait_parts_is, bound_parts_is, RawFacts, const_fits, fits_step, ty_fits, arg_fits, Scope, adt_params, alias_params, callable_params, has_params, width}
 use Rattle.hir_types.specs.declared.ty.Const.TheVariants as const
-use Rattle.hir_types.specs.declared.ty.GenericArg.{GenericArg, GenericArg-F, out-GenericArg, roll-out-GenericArg}
-use Rattle.hir_types.specs.declared.ty.TraitRef.{TraitRef}
-use Rattle.hir_types.specs.declared.ty.Ty.{Ty, Ty-F}
-use Rattle.hir_types.specs.Folds.{Maps, GoBySteps, folds, folds_follow, in_arg, in_ty, unique}
-use Rattle.hir_types.specs.Terms.{Term, pair, chain, type_part, const_part, arg_step, ty_step, term, arg_term, trait_parts, bound_parts, auto_parts}
-use Rattle.hir_types.specs.TermLaws.{terms, term_at, arg_term_at, trait_parts_is, bound_parts_is}
-use Rattle.hir_raw.specs.declared.raw.RawFacts.{RawFacts}
-use Rattle.hir_raw.specs.Fit.{const_fits, fits_step, ty_fits, arg_fits}
-use Rattle.hir_raw.specs.Scope.{Scope, adt_params, alias_params, callable_params, has_params}
-use Rattle.infer_table.specs.Preserved.{width}
-use Rattle.infer_needs.specs.FitTerms.{are_types, takes, is_fit, is_fit_arg}
+use Rattle.infer_needs.specs.Own.{are_types, takes, is_fit, is_fit_arg}
 use Rattle.infer_needs.proofs.Closed.{fit_steps}
 
 -- ---- tests

@@ -2,29 +2,15 @@
 use Rattle.std.specs.Prelude.{◌≡◌, zero, suc, Bool, true, false, ◌||◌, List, [], ◌∷◌, ◌++◌, map, Some, None, refl}
 use Rattle.std.specs.List.{list_any}
 use Rattle.std.proofs.Common.{sym, ap, ◌∙◌, subst, true≢false}
-use Rattle.hir_types.specs.declared.ids.TypeAliasId.{TypeAliasId}
-use Rattle.hir_types.specs.declared.goal.Goal.{Goal}
+use Rattle.infer_needs.specs.Words.{TypeAliasId, Goal, AliasBound, Const, GenericArg, GenericArg-F, map-GenericArg, roll-GenericArg, out-GenericArg, roll-out-GenericArg, TraitRef, out-TraitRef, Ty, Ty-F, map-Ty, ind-Ty, roll-Ty, IsClosed, hole_const, hole_arg, hole_step, folds, folds_follow, in_arg, in_ty, Term, leaf, pair, chain, const_term, type_part, arg_step, ty_step, term, arg_term, terms, term_at, arg_term_at, term_projection, Scope, asked_goal, IsWritten}
 use Rattle.hir_types.specs.declared.goal.Goal.TheVariants as goal
 use Rattle.hir_types.specs.declared.head.Head.TheVariants as head
-use Rattle.hir_types.specs.declared.ty.AliasBound.{AliasBound}
-use Rattle.hir_types.specs.declared.ty.Const.{Const}
 use Rattle.hir_types.specs.declared.ty.Const.TheVariants as const
-use Rattle.hir_types.specs.declared.ty.GenericArg.{GenericArg, GenericArg-F, map-GenericArg, roll-GenericArg, out-GenericArg, roll-out-GenericArg}
 use Rattle.hir_types.specs.declared.ty.GenericArg.TheVariants as arg
-use Rattle.hir_types.specs.declared.ty.TraitRef.{TraitRef, out-TraitRef}
-use Rattle.hir_types.specs.declared.ty.Ty.{Ty, Ty-F, map-Ty, ind-Ty, roll-Ty}
 use Rattle.hir_types.specs.declared.ty.Ty.TheVariants as ty
-use Rattle.hir_types.specs.Erasure.{IsClosed, hole_const, hole_arg, hole_step}
-use Rattle.hir_types.specs.Folds.{folds, folds_follow, in_arg, in_ty}
-use Rattle.hir_types.specs.Terms.{Term, leaf, pair, chain, const_term, type_part, arg_step, ty_step, term, arg_term}
-use Rattle.hir_types.specs.TermLaws.{terms, term_at, arg_term_at, term_projection}
-use Rattle.hir_raw.specs.Scope.{Scope}
-use Rattle.goal_facts.specs.Goals.{asked_goal}
-use Rattle.goal_prove.specs.Written.{IsWritten}
-use Rattle.goal_prove.proofs.Typing.{no_bound, no_principal}
-use Rattle.infer_needs.specs.Fits.{IsFitType, AreFitArgs, IsFitGoal}
+use Rattle.infer_needs.proofs.Words.{no_bound, no_principal}
+use Rattle.infer_needs.specs.Own.{IsFitType, AreFitArgs, IsFitGoal, is_type, are_types, Fits, AskedFits}
 use Rattle.infer_needs.proofs.Closed.{both, hole_steps}
-use Rattle.infer_needs.specs.FitTerms.{is_type, are_types, Fits, AskedFits}
 use Rattle.infer_needs.proofs.FitTerms.{type_same}
 use Rattle.infer_needs.proofs.ReadsFit.{split}
 

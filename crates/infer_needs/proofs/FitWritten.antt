@@ -4,47 +4,16 @@ use Rattle.std.specs.List.{flat_map}
 use Rattle.std.specs.Option.{option_and_then}
 use Rattle.std.proofs.Common.{arith, sym, ap, ◌∙◌, subst}
 use Rattle.std.proofs.lemmas.Bool.{lt-ltb}
-use Rattle.hir_types.specs.declared.ids.DefWithBodyId.{DefWithBodyId}
+use Rattle.infer_needs.specs.Words.{DefWithBodyId, ExprId, TypeRefId, Ty, Term, pair, chain, type_part, term, parts_of_types, term_bool, term_char, term_int, term_uint, term_tuple, term_adt, term_param, term_projection, term_error, term_hole, arg_term_type, RawBody, RawExpr, RawFacts, RawFn, RawStmt, RawType, is_alias, aliases_by, aliases_within, aliases_at, aliases_in, fn_aliases, stmt_aliases, expr_aliases, let_aliases, stmts_of, adt_params, alias_params, has_params, params_of, generic_params, count_or_none, type_parts, filled_by, filled_within, lowered, own_most, param_bound, wrong_args, params_in, body_of, IsLawful, type_ids, FitsThere, parts_there, inputs_fit, output_fits, lets_fit, width, Each, InferenceResult, scope_item, needs_of, pat_needs_of, fn_aliases_by, aliases_of, recorded, IsTableOf, args_term}
 use Rattle.hir_types.specs.declared.ids.DefWithBodyId.TheVariants as def
-use Rattle.hir_types.specs.declared.ids.ExprId.{ExprId}
 use Rattle.hir_types.specs.declared.ids.ExprOrPatId.TheVariants as node
-use Rattle.hir_types.specs.declared.ids.TypeRefId.{TypeRefId}
 use Rattle.hir_types.specs.declared.ty.IntegerTy.TheVariants.{Int, Uint}
 use Rattle.hir_types.specs.declared.ty.GenericArg.TheVariants as arg
-use Rattle.hir_types.specs.declared.ty.Ty.{Ty}
 use Rattle.hir_types.specs.declared.ty.Ty.TheVariants as ty
-use Rattle.hir_types.specs.Terms.{Term, pair, chain, type_part, term}
-use Rattle.hir_types.specs.TermLaws.{parts_of_types, term_bool, term_char, term_int, term_uint, term_tuple, term_adt, term_param, term_projection, term_error, term_hole, arg_term_type}
-use Rattle.hir_raw.specs.declared.raw.RawBody.{RawBody}
-use Rattle.hir_raw.specs.declared.raw.RawExpr.{RawExpr}
-use Rattle.hir_raw.specs.declared.raw.RawFacts.{RawFacts}
-use Rattle.hir_raw.specs.declared.raw.RawFn.{RawFn}
-use Rattle.hir_raw.specs.declared.raw.RawStmt.{RawStmt}
-use Rattle.hir_raw.specs.declared.raw.RawStmt.TheVariants as stmt
-use Rattle.hir_raw.specs.declared.raw.RawType.{RawType}
-use Rattle.hir_raw.specs.declared.raw.RawType.TheVariants as type
-use Rattle.hir_raw.specs.Hidden.{is_alias, aliases_by, aliases_within, aliases_at, aliases_in, fn_aliases}
-use Rattle.hir_raw.specs.Lets.{stmt_aliases, expr_aliases, let_aliases}
-use Rattle.hir_raw.specs.Order.{stmts_of}
-use Rattle.hir_raw.specs.Scope.{adt_params, alias_params, has_params, params_of, generic_params, count_or_none}
-use Rattle.hir_raw.specs.WrittenTypes.{type_parts, filled_by, filled_within, lowered}
-use Rattle.hir_facts.specs.Most.{own_most}
-use Rattle.hir_facts.specs.Standing.{param_bound, wrong_args, params_in}
-use Rattle.hir_facts.specs.Bodies.{body_of}
-use Rattle.hir_facts.specs.Lawful.{IsLawful}
-use Rattle.hir_facts.specs.LawfulFacts.{type_ids}
-use Rattle.hir_facts.specs.WrittenFits.{FitsThere, parts_there, inputs_fit, output_fits, lets_fit}
-use Rattle.infer_table.specs.Preserved.{width}
-use Rattle.goal_answers.specs.Goals.{Each}
-use Rattle.goal_facts.proofs.Systems.{each_append, each_get}
-use Rattle.infer_result.specs.declared.result.InferenceResult.{InferenceResult}
-use Rattle.infer_result.specs.Needs.{scope_item, needs_of, pat_needs_of}
-use Rattle.infer_result.specs.OwnTypes.{fn_aliases_by, aliases_of}
-use Rattle.infer_result.specs.Table.{recorded}
-use Rattle.infer_result.specs.Typed.{IsTableOf}
-use Rattle.infer_result.specs.WrittenAliases.{args_term}
-use Rattle.infer_needs.specs.FitTerms.{are_types, takes, is_fit, Fits, GoalIsFit}
-use Rattle.infer_needs.specs.Written.{TypesFitIn, AllFitIn}
+use Rattle.infer_needs.specs.Words.hir_raw.declared.raw.RawStmt.TheVariants as stmt
+use Rattle.infer_needs.specs.Words.hir_raw.declared.raw.RawType.TheVariants as type
+use Rattle.infer_needs.proofs.Words.{each_append, each_get}
+use Rattle.infer_needs.specs.Own.{are_types, takes, is_fit, Fits, GoalIsFit, TypesFitIn, AllFitIn}
 use Rattle.infer_needs.proofs.FitSources.{both_true, adt_counted, alias_counted}
 use Rattle.infer_needs.proofs.FitNeeds.{needs_fit}
 use Rattle.infer_needs.proofs.NoPlaceholders.{own_free, each_flat}

@@ -3,34 +3,11 @@ use Rattle.std.specs.Prelude.{◌≡◌, ◌⊎◌, ◌<◌, ℕ, zero, suc, Lis
 use Rattle.std.specs.Option.{option_and_then}
 use Rattle.std.proofs.Common.{inl, inr, refl, sym, ap, ◌∙◌, subst, arith}
 use Rattle.std.proofs.lemmas.Option.{same_Some, slice_get_within}
-use Rattle.hir_types.specs.declared.ids.BodyId.{BodyId}
-use Rattle.hir_types.specs.declared.ids.ExprOrPatId.{ExprOrPatId}
+use Rattle.infer_needs.specs.Words.{BodyId, ExprOrPatId, DefWithBodyId, Head, Ty, RawBody, RawExpr, RawFacts, body_of, body_id_of, Asked, System, Proof, asked_goal, IsWrittenHead, IsWritten, Term, hole, leaf, pair, IsSystemOf, Gap, InferenceResult, GoalReads, HasEntry, IsAboutAlias, IsFound, AreFound, MayHold, IsNeeded, HoldsUnknown, HoldsNoHole, IsProved, gap_says, HasGap, IsUnproved, IsClash, IsTrueGap, with_goals, scope_item, GoalsHold, HasNoneLeft, needs_of, pat_needs_of, node_needs, Given, listed_gaps, recorded, given}
 use Rattle.hir_types.specs.declared.ids.ExprOrPatId.TheVariants as node
-use Rattle.hir_types.specs.declared.ids.DefWithBodyId.{DefWithBodyId}
 use Rattle.hir_types.specs.declared.goal.Goal.TheVariants as goal
-use Rattle.hir_types.specs.declared.head.Head.{Head}
 use Rattle.hir_types.specs.declared.head.Head.TheVariants as head
-use Rattle.hir_types.specs.declared.ty.Ty.{Ty}
-use Rattle.hir_raw.specs.declared.raw.RawBody.{RawBody}
-use Rattle.hir_raw.specs.declared.raw.RawExpr.{RawExpr}
-use Rattle.hir_raw.specs.declared.raw.RawFacts.{RawFacts}
-use Rattle.hir_facts.specs.Bodies.{body_of, body_id_of}
-use Rattle.goal_answers.specs.Goals.{Asked, System}
-use Rattle.goal_facts.specs.declared.proof.Proof.{Proof}
-use Rattle.goal_facts.specs.Goals.{asked_goal}
-use Rattle.goal_prove.specs.Written.{IsWrittenHead, IsWritten}
-use Rattle.hir_types.specs.Terms.{Term, hole, leaf, pair}
-use Rattle.goal_facts.specs.Systems.{IsSystemOf}
-use Rattle.infer_result.specs.declared.gaps.Gap.{Gap}
-use Rattle.infer_result.specs.declared.result.InferenceResult.{InferenceResult}
-use Rattle.infer_result.specs.Projections.{GoalReads, HasEntry, IsAboutAlias, IsFound, AreFound}
-use Rattle.infer_result.specs.CannotHold.{MayHold}
-use Rattle.infer_result.specs.Needs.{IsNeeded, HoldsUnknown, HoldsNoHole, IsProved, gap_says, HasGap, IsUnproved, IsClash, IsTrueGap, with_goals, scope_item, GoalsHold, HasNoneLeft, needs_of, pat_needs_of, node_needs}
-use Rattle.infer_result.specs.Places.{Given}
-use Rattle.infer_result.specs.Table.{listed_gaps, recorded}
-use Rattle.infer_result.specs.Typed.{given}
-use Rattle.infer_needs.specs.Listed.{AreDistinct}
-use Rattle.infer_needs.specs.Judged.{IsProvable, AreProvable, ReadsAbout, HasProofOf, IsDone, IsEntry, IsOfFailing, IsOfClash, AreDone, AreAllJudged, ArePatsJudged}
+use Rattle.infer_needs.specs.Own.{AreDistinct, IsProvable, AreProvable, ReadsAbout, HasProofOf, IsDone, IsEntry, IsOfFailing, IsOfClash, AreDone, AreAllJudged, ArePatsJudged}
 use Rattle.infer_needs.proofs.Adding.{adds_then}
 use Rattle.infer_needs.proofs.Judging.{done_still}
 use Rattle.infer_needs.proofs.Leaving.{table_later}

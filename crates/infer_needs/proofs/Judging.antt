@@ -2,47 +2,18 @@
 use Rattle.std.specs.Prelude.{◌≡◌, ◌⊎◌, ◌+◌, ◌++◌, ℕ, List, [], ◌∷◌, length, map, slice_get, Option, Some}
 use Rattle.std.proofs.Common.{inl, inr, refl, sym, ap, ◌∙◌, subst, arith, append-nil, length-append}
 use Rattle.std.proofs.lemmas.List.{map-append}
-use Rattle.hir_types.specs.declared.ids.ExprOrPatId.{ExprOrPatId}
+use Rattle.infer_needs.specs.Words.{ExprOrPatId, GenericDefId, TypeAliasId, Goal, GenericArg, Ty, Same, Term, pair, chain, arg_term, term, RawBody, RawExpr, RawFacts, IsFront, Asked, System, projects, answers, Proof, Answer, asked_goal, IsAnswer, AddsProofs, IsWritten, Gap, InferenceResult, IsListedAs, GoalReads, HasEntry, stays_at, NoneIsLeft, Saying, clashes, gap_says, needs_of, needs_at, pat_needs_at, recorded, AllTypes}
 use Rattle.hir_types.specs.declared.ids.ExprOrPatId.TheVariants as node
-use Rattle.hir_types.specs.declared.ids.GenericDefId.{GenericDefId}
-use Rattle.hir_types.specs.declared.ids.TypeAliasId.{TypeAliasId}
-use Rattle.hir_types.specs.declared.goal.Goal.{Goal}
 use Rattle.hir_types.specs.declared.goal.Goal.TheVariants as goal
-use Rattle.hir_types.specs.declared.ty.GenericArg.{GenericArg}
-use Rattle.hir_types.specs.declared.ty.Ty.{Ty}
 use Rattle.hir_types.specs.declared.ty.Ty.TheVariants as ty
-use Rattle.hir_types.specs.Erasure.{Same}
-use Rattle.hir_types.specs.Terms.{Term, pair, chain, arg_term, term}
-use Rattle.hir_raw.specs.declared.raw.RawBody.{RawBody}
-use Rattle.hir_raw.specs.declared.raw.RawExpr.{RawExpr}
-use Rattle.hir_raw.specs.declared.raw.RawFacts.{RawFacts}
-use Rattle.infer_table.specs.Table.{IsFront}
-use Rattle.infer_table.proofs.BindingLaws.{get_left, get_last, get_more}
-use Rattle.infer_table.proofs.UndoLaws.{front_itself}
-use Rattle.goal_answers.specs.Goals.{Asked, System, projects}
-use Rattle.goal_answers.specs.Answers.{answers}
-use Rattle.goal_answers.proofs.One.{answers_are_one}
-use Rattle.goal_facts.specs.declared.proof.Proof.{Proof}
-use Rattle.goal_search.specs.declared.answer.Answer.{Answer}
-use Rattle.goal_search.specs.declared.answer.Answer.TheVariants as answer
-use Rattle.goal_facts.specs.Goals.{asked_goal, IsAnswer}
-use Rattle.goal_prove.specs.Entries.{AddsProofs}
-use Rattle.goal_prove.specs.Written.{IsWritten}
-use Rattle.infer_result.specs.declared.gaps.Gap.{Gap}
-use Rattle.infer_result.specs.declared.result.InferenceResult.{InferenceResult}
-use Rattle.infer_result.specs.Projections.{IsListedAs, GoalReads, HasEntry, stays_at, NoneIsLeft}
-use Rattle.infer_result.specs.Needs.{Saying, clashes, gap_says, needs_of, needs_at, pat_needs_at}
-use Rattle.infer_result.specs.Table.{recorded}
-use Rattle.infer_result.specs.Closed.{AllTypes}
-use Rattle.infer_needs.specs.Listed.{FindsIn}
-use Rattle.infer_needs.specs.Left.{Lists}
-use Rattle.infer_needs.specs.Judged.{IsProvable, AreProvable, unproved, clash, IsAmong, IsSaidOnce, CannotHoldAsIs, IsSaidUnlessMay, ReadsAbout, SaysAlias, IsNoted, HasProofOf, IsSaid, IsSaidClash, IsDone, IsJudged, IsEntry, AddsEntries, IsSaidBy, ComeFrom, IsOfFailing, IsOfClash, AreDone, AreJudged, AreAllJudged, ArePatsJudged}
+use Rattle.infer_needs.proofs.Words.{get_left, get_last, get_more, front_itself, answers_are_one}
+use Rattle.infer_needs.specs.Words.goal_search.declared.answer.Answer.TheVariants as answer
+use Rattle.infer_needs.specs.Own.{FindsIn, Lists, IsProvable, AreProvable, unproved, clash, IsAmong, IsSaidOnce, CannotHoldAsIs, IsSaidUnlessMay, ReadsAbout, SaysAlias, IsNoted, HasProofOf, IsSaid, IsSaidClash, IsDone, IsJudged, IsEntry, AddsEntries, IsSaidBy, ComeFrom, IsOfFailing, IsOfClash, AreDone, AreJudged, AreAllJudged, ArePatsJudged, first_pat_needs}
 use Rattle.infer_needs.proofs.Adding.{adds_none, adds_then, front_get, has_later, listed_later, entry_later, entries_later, lists_none, lists_then}
 use Rattle.infer_needs.proofs.ReadGoals.{goal_is_read, reads_same}
 use Rattle.infer_needs.proofs.Leaving.{table_later}
 use Rattle.infer_needs.proofs.Coming.{from_then}
 use Rattle.infer_needs.proofs.Telling.{first_pat_more}
-use Rattle.infer_needs.specs.Told.{first_pat_needs}
 
 -- ---- what stays so
 

@@ -5,38 +5,11 @@ use Rattle.std.proofs.Math.Nat.{eq-or-lt_of_le}
 use Rattle.std.proofs.lemmas.Option.{same_Some, slice_get_within}
 use Rattle.hir_types.specs.declared.goal.Goal.TheVariants as goal
 use Rattle.hir_types.specs.declared.head.Head.TheVariants as head
-use Rattle.hir_types.specs.declared.ids.ExprId.{ExprId}
-use Rattle.hir_types.specs.declared.ids.GenericDefId.{GenericDefId}
-use Rattle.hir_types.specs.declared.ids.TypeAliasId.{TypeAliasId}
-use Rattle.hir_types.specs.declared.ty.GenericArg.{GenericArg}
-use Rattle.hir_types.specs.declared.ty.Ty.{Ty}
+use Rattle.infer_needs.specs.Words.{ExprId, GenericDefId, TypeAliasId, GenericArg, Ty, Term, leaf, pair, chain, term, arg_term, term_projection, RawFacts, IsFront, Asked, System, projects, answers, IsRead, ReadsAs, staying, Proof, asked_goal, TypeReads, IsTypeRead, AddsProofs, IsProofAt, IsWritten, InferenceResult, TypeMismatch, InferenceDiagnostic, AllTypes, HoldsUnknown, IsPartOf, stays_at, StaysOrIsListed, NoneIsLeft}
 use Rattle.hir_types.specs.declared.ty.Ty.TheVariants as ty
-use Rattle.hir_types.specs.Terms.{Term, leaf, pair, chain, term, arg_term}
-use Rattle.hir_types.specs.TermLaws.{term_projection}
-use Rattle.hir_raw.specs.declared.raw.RawFacts.{RawFacts}
-use Rattle.infer_table.specs.Table.{IsFront}
-use Rattle.infer_table.proofs.BindingLaws.{get_last, get_more}
-use Rattle.infer_table.proofs.UndoLaws.{front_itself}
-use Rattle.goal_answers.specs.Goals.{Asked, System, projects}
-use Rattle.goal_answers.specs.Answers.{answers}
-use Rattle.goal_answers.specs.Reading.{IsRead, ReadsAs, staying}
-use Rattle.goal_facts.specs.declared.proof.Proof.{Proof}
-use Rattle.goal_facts.specs.Goals.{asked_goal}
-use Rattle.goal_facts.specs.Reading.{TypeReads, IsTypeRead}
-use Rattle.goal_prove.specs.Entries.{AddsProofs, IsProofAt}
-use Rattle.goal_prove.specs.Written.{IsWritten}
-use Rattle.infer_result.specs.declared.result.InferenceResult.{InferenceResult}
-use Rattle.infer_result.specs.declared.result.TypeMismatch.{TypeMismatch}
-use Rattle.infer_result.specs.declared.diagnostics.InferenceDiagnostic.{InferenceDiagnostic}
+use Rattle.infer_needs.proofs.Words.{get_last, get_more, front_itself}
 use Rattle.infer_result.specs.declared.diagnostics.InferenceDiagnostic.TheVariants as diagnostic
-use Rattle.infer_result.specs.Closed.{AllTypes}
-use Rattle.infer_result.specs.Needs.{HoldsUnknown}
-use Rattle.infer_result.specs.Projections.{IsPartOf, stays_at, StaysOrIsListed, NoneIsLeft}
-use Rattle.infer_needs.specs.FitTerms.{EntryFitsIn, EntriesFitIn}
-use Rattle.infer_needs.specs.Judged.{HasProofOf, IsEntry, AreEntries}
-use Rattle.infer_needs.specs.Left.{WasRead, WereRead, AddsRead, Lists, staying_head, NoneHere, NoneStands, StandsInType, StandsInMismatch, StandsInDiagnostic, EachIn, EachOf}
-use Rattle.infer_needs.specs.Listed.{FindsIn}
-use Rattle.infer_needs.specs.Told.{AddsRootsOf}
+use Rattle.infer_needs.specs.Own.{EntryFitsIn, EntriesFitIn, HasProofOf, IsEntry, AreEntries, WasRead, WereRead, AddsRead, Lists, staying_head, NoneHere, NoneStands, StandsInType, StandsInMismatch, StandsInDiagnostic, EachIn, EachOf, FindsIn, AddsRootsOf}
 use Rattle.infer_needs.proofs.Adding.{adds_none, adds_then, entry_later, entries_later, lists_none, lists_then}
 use Rattle.infer_needs.proofs.Rooted.{roots_none, roots_more}
 use Rattle.infer_needs.proofs.ReadsYes.{reads_one, reads_read}

@@ -22,3 +22,4 @@ pub mod Leaving
 pub mod Writing
 pub mod Holding
 pub mod Samples
+pub mod Words

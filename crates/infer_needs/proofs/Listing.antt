@@ -3,10 +3,9 @@ use Rattle.std.specs.Prelude.{◌≡◌, ℕ, List, [], ◌∷◌, ◌++◌, len
 use Rattle.std.specs.HashMap.{HashMap, get, Updates}
 use Rattle.std.proofs.Common.{inl, inr, sym, ap, subst, ◌∙◌}
 use Rattle.std.proofs.lemmas.Bool.{false_from_ne_true}
-use Rattle.hir_types.specs.declared.ty.Ty.{Ty}
-use Rattle.hir_types.proofs.Equal.{ty_eq, ty_decides}
-use Rattle.infer_table.proofs.BindingLaws.{get_more}
-use Rattle.infer_needs.specs.Listed.{FindsIn, IsIndexed}
+use Rattle.infer_needs.specs.Words.{Ty}
+use Rattle.infer_needs.proofs.Words.{ty_eq, ty_decides, get_more}
+use Rattle.infer_needs.specs.Own.{FindsIn, IsIndexed}
 
 module _ {S : Type 0} (m : HashMap Ty ℕ S) (js : List (Ty × Ty)) (indexed : IsIndexed m js) where
   -- the map has the place of another

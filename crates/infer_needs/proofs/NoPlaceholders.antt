@@ -1,53 +1,14 @@
 -- No `_` stands in what goals, impls and bounds are written with; so none stands in them at arguments in which none does.
 use Rattle.std.specs.Prelude.{◌≡◌, ◌≤◌, ◌++◌, ℕ, zero, suc, max, Bool, true, false, if◌then◌else◌, List, [], ◌∷◌, length, map, flat_map, slice_get, Option, Some, None, option_map, IfSome, refl}
 use Rattle.std.proofs.Common.{arith, sym, ap, ◌∙◌, subst}
-use Rattle.hir_types.specs.declared.ids.GenericDefId.{GenericDefId}
+use Rattle.infer_needs.specs.Words.{GenericDefId, TraitId, TypeAliasId, TypeRefId, Head, GenericArg, with_params, replaced_error, replaced, term_error, Term, leaf, pair, chain, type_part, term, most, RawAdt, RawAlias, RawAssocType, RawField, RawFn, RawGoal, RawImpl, RawTrait, RawTraitRef, RawType, RawVariant, RawFacts, arg_types, is_alias, aliases_by, aliases_within, aliases_at, aliases_in, fn_aliases, field_refs, variant_aliases, type_parts, filled_within, AllHold, TypesExist, TraitRefExists, GoalExists, GoalsExist, TraitIdsExist, AliasIdsExist, ImplIdsExist, IsGivenIn, most_above, own_most, part_most, hole_at, most_by, most_within, most_in, HasNoHole, variant_uses, fn_uses, goal_uses, goals_uses, trait_ref_uses, impl_uses, abstract_uses, item_uses, IsLawful, type_ids, adt_ids, fn_ids, In, in_first, in_last, in_flat, item_has_no_hole, input_has_no_hole, output_has_no_hole, field_has_no_hole, Each, type_at, args_at, goal_at, preds_or_none, trait_preds, env_trait, preds_of_trait, env_preds, IsWrittenHead}
 use Rattle.hir_types.specs.declared.ids.GenericDefId.TheVariants as generic
-use Rattle.hir_types.specs.declared.ids.TraitId.{TraitId}
-use Rattle.hir_types.specs.declared.ids.TypeAliasId.{TypeAliasId}
-use Rattle.hir_types.specs.declared.ids.TypeRefId.{TypeRefId}
-use Rattle.hir_types.specs.declared.head.Head.{Head}
 use Rattle.hir_types.specs.declared.head.Head.TheVariants as head
 use Rattle.hir_types.specs.declared.ty.IntegerTy.TheVariants.{Int, Uint}
-use Rattle.hir_types.specs.declared.ty.GenericArg.{GenericArg}
 use Rattle.hir_types.specs.declared.ty.Ty.TheVariants as ty
-use Rattle.hir_types.specs.Assigned.{with_params}
-use Rattle.hir_types.specs.Replacements.{replaced_error}
-use Rattle.hir_types.specs.Subst.{replaced}
-use Rattle.hir_types.specs.TermLaws.{term_error}
-use Rattle.hir_types.specs.Terms.{Term, leaf, pair, chain, type_part, term}
-use Rattle.hir_types.specs.Types.{most}
-use Rattle.hir_raw.specs.declared.raw.RawAdt.{RawAdt}
-use Rattle.hir_raw.specs.declared.raw.RawAlias.{RawAlias}
-use Rattle.hir_raw.specs.declared.raw.RawAssocType.{RawAssocType}
-use Rattle.hir_raw.specs.declared.raw.RawField.{RawField}
-use Rattle.hir_raw.specs.declared.raw.RawFn.{RawFn}
-use Rattle.hir_raw.specs.declared.raw.RawGoal.{RawGoal}
-use Rattle.hir_raw.specs.declared.raw.RawGoal.TheVariants as goal
-use Rattle.hir_raw.specs.declared.raw.RawImpl.{RawImpl}
-use Rattle.hir_raw.specs.declared.raw.RawTrait.{RawTrait}
-use Rattle.hir_raw.specs.declared.raw.RawTraitRef.{RawTraitRef}
-use Rattle.hir_raw.specs.declared.raw.RawType.{RawType}
-use Rattle.hir_raw.specs.declared.raw.RawType.TheVariants as type
-use Rattle.hir_raw.specs.declared.raw.RawVariant.{RawVariant}
-use Rattle.hir_raw.specs.declared.raw.RawFacts.{RawFacts}
-use Rattle.hir_raw.specs.Goals.{arg_types}
-use Rattle.hir_raw.specs.Hidden.{is_alias, aliases_by, aliases_within, aliases_at, aliases_in, fn_aliases, field_refs, variant_aliases}
-use Rattle.hir_raw.specs.WrittenTypes.{type_parts, filled_within}
-use Rattle.hir_facts.specs.Entries.{AllHold}
-use Rattle.hir_facts.specs.GoalIds.{TypesExist, TraitRefExists, GoalExists, GoalsExist, TraitIdsExist, AliasIdsExist, ImplIdsExist, IsGivenIn}
-use Rattle.hir_facts.specs.Most.{most_above, own_most, part_most}
-use Rattle.hir_facts.specs.Standing.{hole_at, most_by, most_within, most_in, HasNoHole}
-use Rattle.hir_facts.specs.Uses.{variant_uses, fn_uses, goal_uses, goals_uses, trait_ref_uses, impl_uses, abstract_uses, item_uses}
-use Rattle.hir_facts.specs.Lawful.{IsLawful}
-use Rattle.hir_facts.specs.LawfulFacts.{type_ids, adt_ids, fn_ids}
-use Rattle.hir_facts.specs.NoHoles.{In, in_first, in_last, in_flat, item_has_no_hole, input_has_no_hole, output_has_no_hole, field_has_no_hole}
-use Rattle.goal_answers.specs.Goals.{Each}
-use Rattle.goal_facts.specs.Arguments.{type_at, args_at, goal_at}
-use Rattle.goal_facts.specs.Environment.{preds_or_none, trait_preds, env_trait, preds_of_trait, env_preds}
-use Rattle.goal_facts.proofs.Systems.{each_append}
-use Rattle.goal_facts.proofs.Written.{parts_by, layer, layer_is, args_are}
-use Rattle.goal_prove.specs.Written.{IsWrittenHead}
+use Rattle.infer_needs.specs.Words.hir_raw.declared.raw.RawGoal.TheVariants as goal
+use Rattle.infer_needs.specs.Words.hir_raw.declared.raw.RawType.TheVariants as type
+use Rattle.infer_needs.proofs.Words.{each_append, parts_by, layer, layer_is, args_are}
 
 -- no `_` stands in any of these types
 abbrev pub HaveNoHole : RawFacts → List TypeRefId → Type 0

@@ -1,16 +1,10 @@
 -- Goals with holes in the places of `{unknown}`, and their answers.
 use Rattle.std.specs.Prelude.{◌≡◌, ◌⊎◌, ℕ, Option, Some, None}
 use Rattle.std.proofs.Common.{inl, inr, refl, subst}
-use Rattle.hir_types.specs.declared.head.Hole.{Hole}
-use Rattle.hir_types.specs.Terms.{Term, hole, leaf, pair}
-use Rattle.goal_answers.specs.Reading.{plain, role}
-use Rattle.goal_answers.specs.Goals.{Asked, System}
-use Rattle.goal_answers.proofs.One.{answers_are_one}
-use Rattle.goal_terms.specs.Terms.{IsHead, HasHeads}
-use Rattle.goal_search.specs.declared.answer.Answer.{Answer}
-use Rattle.goal_search.specs.declared.answer.Answer.TheVariants as answer
-use Rattle.goal_facts.specs.Goals.{IsAnswer}
-use Rattle.infer_result.specs.CannotHold.{hole_for, Opened, put_or, opened, opened_goal, CannotHold}
+use Rattle.infer_needs.specs.Words.{Hole, Term, hole, leaf, pair, plain, role, Asked, System, IsHead, HasHeads, Answer, IsAnswer, hole_for, Opened, put_or, opened_goal, CannotHold}
+use Rattle.infer_needs.proofs.Words.{answers_are_one}
+use Rattle.infer_needs.specs.Words.goal_search.declared.answer.Answer.TheVariants as answer
+use Rattle.infer_result.specs.CannotHold.{opened}
 
 -- ---- what stands first stays known
 

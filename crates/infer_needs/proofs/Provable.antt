@@ -3,49 +3,15 @@ use Rattle.std.specs.Prelude.{◌≡◌, ℕ, suc, List, [], ◌∷◌, length, 
 use Rattle.std.specs.Option.{option_and_then}
 use Rattle.std.proofs.Common.{sym, ap, ◌∙◌, subst}
 use Rattle.std.proofs.lemmas.Option.{same_Some}
-use Rattle.hir_types.specs.declared.ids.DefWithBodyId.{DefWithBodyId}
+use Rattle.infer_needs.specs.Words.{DefWithBodyId, ExprOrPatId, TypeRefId, AliasBound, GenericArg, TraitRef, Ty, Ty-F, out-Ty, Term, pair, term, RawBody, RawExpr, RawFn, RawGoal, RawPath, RawType, RawVariant, RawFacts, body_of, IsLawful, fn_aliases, variant_aliases, IsClosed, ty_fits, scope_of, params_of, generic_params, adt_params, count_or_none, IsRead, AllTypes, Asked, Each, args_at, goal_at, env_preds, IsWritten, InferenceResult, alias_goals_by, alias_goals_from, fn_alias_goals, variant_alias_goals, path_alias_goals, alias_goals, variant_preds, path_preds, expr_preds, item_args, item_path, needed_goals, needs_of, pat_needs_by, pat_needs_of, pat_needs_at, node_needs, scope_item, recorded, IsTableOf}
 use Rattle.hir_types.specs.declared.ids.DefWithBodyId.TheVariants as def
-use Rattle.hir_types.specs.declared.ids.ExprOrPatId.{ExprOrPatId}
 use Rattle.hir_types.specs.declared.ids.ExprOrPatId.TheVariants as node
 use Rattle.hir_types.specs.declared.ids.GenericDefId.TheVariants as generic
-use Rattle.hir_types.specs.declared.ids.TypeRefId.{TypeRefId}
-use Rattle.hir_types.specs.declared.ty.AliasBound.{AliasBound}
-use Rattle.hir_types.specs.declared.ty.GenericArg.{GenericArg}
-use Rattle.hir_types.specs.declared.ty.TraitRef.{TraitRef}
-use Rattle.hir_types.specs.declared.ty.Ty.{Ty, Ty-F, out-Ty}
-use Rattle.hir_types.specs.Terms.{Term, pair, term}
-use Rattle.hir_raw.specs.declared.raw.RawBody.{RawBody}
-use Rattle.hir_raw.specs.declared.raw.RawExpr.{RawExpr}
-use Rattle.hir_raw.specs.declared.raw.RawExpr.TheVariants as expr
-use Rattle.hir_raw.specs.declared.raw.RawFn.{RawFn}
-use Rattle.hir_raw.specs.declared.raw.RawGoal.{RawGoal}
-use Rattle.hir_raw.specs.declared.raw.RawPath.{RawPath}
-use Rattle.hir_raw.specs.declared.raw.RawPath.TheVariants as path
-use Rattle.hir_raw.specs.declared.raw.RawType.{RawType}
-use Rattle.hir_raw.specs.declared.raw.RawType.TheVariants as type
-use Rattle.hir_raw.specs.declared.raw.RawVariant.{RawVariant}
-use Rattle.hir_raw.specs.declared.raw.RawFacts.{RawFacts}
-use Rattle.hir_facts.specs.Bodies.{body_of}
-use Rattle.hir_facts.specs.Lawful.{IsLawful}
-use Rattle.hir_raw.specs.Hidden.{fn_aliases, variant_aliases}
-use Rattle.hir_types.specs.Erasure.{IsClosed}
-use Rattle.hir_raw.specs.Fit.{ty_fits}
-use Rattle.hir_raw.specs.Scope.{scope_of, params_of, generic_params, adt_params, count_or_none}
-use Rattle.goal_answers.specs.Reading.{IsRead}
-use Rattle.infer_result.specs.Closed.{AllTypes}
-use Rattle.goal_answers.specs.Goals.{Asked, Each}
-use Rattle.infer_needs.specs.Left.{IsFinalType}
-use Rattle.goal_facts.specs.Arguments.{args_at, goal_at}
-use Rattle.goal_facts.specs.Environment.{env_preds}
-use Rattle.goal_facts.proofs.Systems.{each_append}
-use Rattle.goal_prove.specs.Written.{IsWritten}
-use Rattle.infer_result.specs.declared.result.InferenceResult.{InferenceResult}
-use Rattle.infer_result.specs.AliasNeeds.{alias_goals_by, alias_goals_from, fn_alias_goals, variant_alias_goals, path_alias_goals, alias_goals}
-use Rattle.infer_result.specs.Needs.{variant_preds, path_preds, expr_preds, item_args, item_path, needed_goals, needs_of, pat_needs_by, pat_needs_of, pat_needs_at, node_needs, scope_item}
-use Rattle.infer_result.specs.Table.{recorded}
-use Rattle.infer_result.specs.Typed.{IsTableOf}
-use Rattle.infer_needs.specs.FitTerms.{Fits}
-use Rattle.infer_needs.specs.Judged.{IsProvable, AreProvable}
+use Rattle.infer_needs.specs.Words.hir_raw.declared.raw.RawExpr.TheVariants as expr
+use Rattle.infer_needs.specs.Words.hir_raw.declared.raw.RawPath.TheVariants as path
+use Rattle.infer_needs.specs.Words.hir_raw.declared.raw.RawType.TheVariants as type
+use Rattle.infer_needs.specs.Own.{IsFinalType, Fits, IsProvable, AreProvable}
+use Rattle.infer_needs.proofs.Words.{each_append}
 use Rattle.infer_needs.proofs.Closed.{AreClosed, type_closed, item_closed}
 use Rattle.infer_needs.proofs.FitTerms.{type_same}
 use Rattle.infer_needs.proofs.NoPlaceholders.{HaveNoHole, GoalHasNoHole, GoalsHaveNoHole, args_hold_at, goal_holds_at, preds_have_none, IsWithoutHole, alias_has_none, fn_aliases_have_none, variant_aliases_have_none}

@@ -1,38 +1,11 @@
 -- What goals read as: it is one goal, read, without holes where the first is, and Yes where the first is.
 use Rattle.std.specs.Prelude.{◌≡◌, ℕ, zero, suc, true, List, Option, Some, None, refl}
 use Rattle.std.proofs.Common.{sym, ap, ◌∙◌, subst}
-use Rattle.hir_types.specs.declared.goal.Goal.{Goal}
+use Rattle.infer_needs.specs.Words.{Goal, GenericDefId, TypeAliasId, GenericArg, TraitRef, out-TraitRef, Ty, Term, hole, term, RawFacts, IsLawful, IsRead, ReadsAs, Kind, implements, projects, Asked, System, is_among, YesAt, answers, ReadingIs, known_below, term_of, Sources, asked_of, system, Proof, asked_goal, IsSystemOf, IsProvedIf, IsGoodGoal, IsWritten, HoldsUnknown, GoalReads, IsAboutAlias, stays_at}
 use Rattle.hir_types.specs.declared.goal.Goal.TheVariants as goal
-use Rattle.hir_types.specs.declared.ids.GenericDefId.{GenericDefId}
-use Rattle.hir_types.specs.declared.ids.TypeAliasId.{TypeAliasId}
-use Rattle.hir_types.specs.declared.ty.GenericArg.{GenericArg}
-use Rattle.hir_types.specs.declared.ty.TraitRef.{TraitRef, out-TraitRef}
-use Rattle.hir_types.specs.declared.ty.Ty.{Ty}
-use Rattle.hir_types.specs.Terms.{Term, hole, term}
-use Rattle.hir_raw.specs.declared.raw.RawFacts.{RawFacts}
-use Rattle.hir_facts.specs.Lawful.{IsLawful}
-use Rattle.goal_answers.specs.Reading.{IsRead, ReadsAs}
-use Rattle.goal_answers.specs.Goals.{Kind, implements, projects, Asked, System, is_among}
-use Rattle.goal_answers.specs.Answers.{YesAt, answers}
-use Rattle.goal_answers.specs.Steps.{ReadingIs, known_below}
-use Rattle.goal_answers.proofs.Readings.{read_reads, reads_one}
-use Rattle.goal_answers.proofs.One.{answers_sound}
-use Rattle.goal_answers.proofs.Levels.{answers_read, reads_read}
-use Rattle.goal_terms.specs.Terms.{term_of}
-use Rattle.goal_search.specs.declared.sources.Asked.{Asked as SearchAsked}
-use Rattle.goal_search.specs.declared.sources.Sources.{Sources}
-use Rattle.goal_search.specs.Sources.{asked_of, system}
-use Rattle.goal_facts.specs.declared.proof.Proof.{Proof}
-use Rattle.goal_facts.specs.Goals.{asked_goal}
-use Rattle.goal_facts.specs.Systems.{IsSystemOf}
-use Rattle.goal_prove.specs.Entries.{IsProvedIf}
-use Rattle.goal_prove.specs.Written.{IsGoodGoal, IsWritten}
-use Rattle.goal_prove.proofs.Aliases.{aliases_good}
-use Rattle.goal_prove.proofs.Typing.{goal_reads}
-use Rattle.infer_result.specs.Needs.{HoldsUnknown}
-use Rattle.infer_result.specs.Projections.{GoalReads, IsAboutAlias, stays_at}
-use Rattle.infer_needs.specs.Judged.{HasProofOf}
-use Rattle.infer_needs.specs.Read.{IsGoalRead}
+use Rattle.infer_needs.proofs.Words.{read_reads, reads_one, answers_sound, answers_read, reads_read, aliases_good, goal_reads}
+use Rattle.infer_needs.specs.Words.goal_search.declared.sources.Asked.{Asked as SearchAsked}
+use Rattle.infer_needs.specs.Own.{HasProofOf, IsGoalRead}
 use Rattle.infer_needs.proofs.ReadsYes.{term_reads_written}
 
 abbrev asks : Kind → Term → Asked

@@ -3,51 +3,17 @@ use Rattle.std.specs.Prelude.{◌≡◌, ◌<◌, ◌+◌, ℕ, zero, suc, nat_l
 use Rattle.std.specs.List.{range_with_len}
 use Rattle.std.proofs.Common.{inl, inr, arith, sym, ap, ◌∙◌, subst, true≢false}
 use Rattle.std.proofs.lemmas.Bool.{lt-ltb, or_cases, or_left, or_right}
-use Rattle.hir_types.specs.declared.ids.GenericDefId.{GenericDefId}
-use Rattle.hir_types.specs.declared.ids.TypeAliasId.{TypeAliasId}
-use Rattle.hir_types.specs.declared.ids.TypeRefId.{TypeRefId}
-use Rattle.hir_types.specs.declared.head.Head.{Head}
+use Rattle.infer_needs.specs.Words.{GenericDefId, TypeAliasId, TypeRefId, Head, Hole, GenericArg, Ty, arg_as_type, with_params, Term, hole, leaf, pair, chain, apply, occurs, hole_number, term, arg_term, term_param, term_error, term_var, arg_term_type, width, hole_eq_true, hole_eq_same, RawAlias, RawAssocType, RawFacts, RawGoal, RawImpl, RawTrait, RawTraitRef, arg_types, adt_params, alias_params, alias_params_by, callable_params, has_params, count_or_none, params_in_trait, generic_params, AllHold, AliasIdsExist, IsLawful, Fill, plain, alias, role, staying, stands, Aliases, Reads, ReadsAs, MayRead, Kind, implements, projects, Asked, Rule, System, asked_at, args_of, type_of, key, Each, OneOf, Verdicts, IsNth, Gives, GivesNone, alias_next, answers, holes, own_params, type_at, args_at, goal_at, BoundSays, IsListed, IsStated, trait_holes, IsSuper, impl_holes, assoc_rule, rules_for, impl_rules, fact, IsSystemOf}
 use Rattle.hir_types.specs.declared.head.Head.TheVariants as head
-use Rattle.hir_types.specs.declared.head.Hole.{Hole}
-use Rattle.hir_types.specs.declared.ty.GenericArg.{GenericArg}
 use Rattle.hir_types.specs.declared.ty.GenericArg.TheVariants as arg
-use Rattle.hir_types.specs.declared.ty.Ty.{Ty}
 use Rattle.hir_types.specs.declared.ty.Ty.TheVariants as ty
-use Rattle.hir_types.specs.Assigned.{arg_as_type, with_params}
-use Rattle.hir_types.specs.Terms.{Term, hole, leaf, pair, chain, apply, occurs, hole_number, term, arg_term}
-use Rattle.hir_types.specs.TermLaws.{term_param, term_error, term_var, arg_term_type}
-use Rattle.infer_table.specs.Preserved.{width}
-use Rattle.infer_table.specs.TermLemmas.{hole_eq_true, hole_eq_same}
-use Rattle.hir_raw.specs.declared.raw.RawAlias.{RawAlias}
-use Rattle.hir_raw.specs.declared.raw.RawAssocType.{RawAssocType}
-use Rattle.hir_raw.specs.declared.raw.RawFacts.{RawFacts}
-use Rattle.hir_raw.specs.declared.raw.RawGoal.{RawGoal}
-use Rattle.hir_raw.specs.declared.raw.RawGoal.TheVariants as raw_goal
-use Rattle.hir_raw.specs.declared.raw.RawImpl.{RawImpl}
-use Rattle.hir_raw.specs.declared.raw.RawTrait.{RawTrait}
-use Rattle.hir_raw.specs.declared.raw.RawTraitRef.{RawTraitRef}
-use Rattle.hir_raw.specs.Goals.{arg_types}
-use Rattle.hir_raw.specs.Scope.{adt_params, alias_params, alias_params_by, callable_params, has_params, count_or_none, params_in_trait, generic_params}
-use Rattle.hir_facts.specs.Entries.{AllHold}
-use Rattle.hir_facts.specs.GoalIds.{AliasIdsExist}
-use Rattle.hir_facts.specs.Lawful.{IsLawful}
-use Rattle.goal_answers.specs.Reading.{Fill, Role, plain, alias, role, staying, stands, Aliases, Reads, ReadsAs, MayRead}
-use Rattle.goal_answers.specs.Goals.{Kind, implements, projects, Asked, Rule, System, asked_at, args_of, type_of, key, Each, OneOf, Verdicts}
-use Rattle.goal_answers.specs.Rows.{IsNth}
-use Rattle.goal_answers.specs.Answers.{Gives, GivesNone, alias_next, answers}
-use Rattle.goal_answers.proofs.Lists.{one_some}
-use Rattle.goal_answers.proofs.Readings.{ReadsBy, MayReadBy, stands_by, reads_may}
-use Rattle.goal_answers.proofs.One.{occurs_type}
-use Rattle.goal_facts.specs.Arguments.{holes, own_params, type_at, args_at, goal_at}
-use Rattle.goal_facts.specs.Bounds.{BoundSays, IsListed}
-use Rattle.goal_facts.specs.Environment.{IsStated, trait_holes, IsSuper, Follows}
-use Rattle.goal_facts.specs.Impls.{impl_holes, assoc_rule, rules_for, impl_rules}
-use Rattle.goal_facts.specs.Systems.{fact, IsSystemOf}
-use Rattle.goal_facts.proofs.Systems.{each_append}
-use Rattle.goal_prove.proofs.TypeTerms.{top_type}
+use Rattle.infer_needs.specs.Words.hir_raw.declared.raw.RawGoal.TheVariants as raw_goal
+use Rattle.infer_needs.specs.Words.goal_answers.Reading.{Role}
+use Rattle.infer_needs.proofs.Words.{one_some, ReadsBy, MayReadBy, stands_by, reads_may, occurs_type, each_append, top_type}
+use Rattle.infer_needs.specs.Words.goal_facts.Environment.{Follows}
 use Rattle.infer_needs.proofs.Closed.{both}
 use Rattle.infer_needs.proofs.NoPlaceholders.{each_flat}
-use Rattle.infer_needs.specs.FitTerms.{is_type, are_types, takes, may_follow, is_fit, Fits}
+use Rattle.infer_needs.specs.Own.{is_type, are_types, takes, may_follow, is_fit, Fits}
 use Rattle.infer_needs.proofs.FitSources.{IsCounted, AreCounted, GoalIsCounted, both_true, type_fits_at, args_fit_at, trait_counted, preds_counted, bounds_counted, given_counted}
 use Rattle.infer_needs.proofs.ReadsYes.{some_give}
 

@@ -4,49 +4,14 @@ use Rattle.std.specs.Prelude.{◌≡◌, ℕ, zero, suc, true, List, [], ◌∷�
 use Rattle.std.specs.List.{range_with_len}
 use Rattle.std.proofs.Common.{inl, inr, sym, ap, ◌∙◌, subst, true≢false}
 use Rattle.std.proofs.lemmas.Bool.{or_cases, or_left, or_right}
-use Rattle.hir_types.specs.declared.ids.GenericDefId.{GenericDefId}
-use Rattle.hir_types.specs.declared.ids.TypeAliasId.{TypeAliasId}
-use Rattle.hir_types.specs.declared.ids.TypeRefId.{TypeRefId}
+use Rattle.infer_needs.specs.Words.{GenericDefId, TypeAliasId, TypeRefId, Hole, GenericArg, Ty, arg_as_type, with_params, Term, hole, leaf, pair, chain, apply, occurs, hole_number, term, arg_term, term_param, term_projection, term_error, term_var, arg_term_type, hole_eq_true, hole_eq_same, RawAssocType, RawFacts, RawGoal, RawImpl, RawTraitRef, arg_types, count_or_none, params_in_trait, generic_params, HasNoHole, IsLawful, Fill, plain, alias, role, staying, stands, IsRead, Aliases, Reads, ReadsAs, MayRead, Kind, projects, Asked, Rule, System, args_of, type_of, key, IsKnown, Each, SomeOf, OneOf, Verdicts, IsNth, IsRefuted, Gives, GivesNone, alias_next, Proves, ShadowsNot, HasSource, answers, holes, own_params, type_at, args_at, goal_at, BoundSays, IsListed, IsStated, trait_holes, IsSuper, asked_goal, impl_args, assoc_rule, rules_for, impl_rules, TypeReads, fact, IsSystemOf, IsWrittenHead, IsWritten, stays_at}
 use Rattle.hir_types.specs.declared.goal.Goal.TheVariants as goal
-use Rattle.hir_types.specs.declared.head.Hole.{Hole}
-use Rattle.hir_types.specs.declared.ty.GenericArg.{GenericArg}
 use Rattle.hir_types.specs.declared.ty.GenericArg.TheVariants as arg
-use Rattle.hir_types.specs.declared.ty.Ty.{Ty}
 use Rattle.hir_types.specs.declared.ty.Ty.TheVariants as ty
-use Rattle.hir_types.specs.Assigned.{arg_as_type, with_params}
-use Rattle.hir_types.specs.Terms.{Term, hole, leaf, pair, chain, apply, occurs, hole_number, term, arg_term}
-use Rattle.hir_types.specs.TermLaws.{term_param, term_projection, term_error, term_var, arg_term_type}
-use Rattle.infer_table.specs.TermLemmas.{hole_eq_true, hole_eq_same}
-use Rattle.hir_raw.specs.declared.raw.RawAssocType.{RawAssocType}
-use Rattle.hir_raw.specs.declared.raw.RawFacts.{RawFacts}
-use Rattle.hir_raw.specs.declared.raw.RawGoal.{RawGoal}
-use Rattle.hir_raw.specs.declared.raw.RawGoal.TheVariants as raw_goal
-use Rattle.hir_raw.specs.declared.raw.RawImpl.{RawImpl}
-use Rattle.hir_raw.specs.declared.raw.RawTraitRef.{RawTraitRef}
-use Rattle.hir_raw.specs.Goals.{arg_types}
-use Rattle.hir_raw.specs.Scope.{count_or_none, params_in_trait, generic_params}
-use Rattle.hir_facts.specs.Standing.{HasNoHole}
-use Rattle.hir_facts.specs.Lawful.{IsLawful}
-use Rattle.goal_answers.specs.Reading.{Fill, Role, plain, alias, role, staying, stands, IsRead, Aliases, Reads, ReadsAs, MayRead}
-use Rattle.goal_answers.specs.Goals.{Kind, projects, Asked, Rule, System, args_of, type_of, key, IsKnown, Each, SomeOf, OneOf, Verdicts}
-use Rattle.goal_answers.specs.Rows.{IsNth}
-use Rattle.goal_answers.specs.Answers.{IsRefuted, Gives, GivesNone, alias_next, Proves, ShadowsNot, HasSource, answers}
-use Rattle.goal_answers.proofs.Lists.{or_map, one_some, each_with}
-use Rattle.goal_answers.proofs.Readings.{ReadsBy, MayReadBy, stands_by, AliasWithin, role_read, read_reads, reads_within, reads_may, reads_one as same_reading}
-use Rattle.goal_answers.proofs.Deeper.{within_itself, refuted_more, one_deeper}
-use Rattle.goal_answers.proofs.One.{occurs_type, answers_sound}
-use Rattle.goal_answers.proofs.Levels.{answers_read, reads_read as reading_is_read}
-use Rattle.goal_facts.specs.Arguments.{holes, own_params, type_at, args_at, goal_at}
-use Rattle.goal_facts.specs.Bounds.{BoundSays, IsListed}
-use Rattle.goal_facts.specs.Environment.{IsStated, trait_holes, IsSuper, Follows}
-use Rattle.goal_facts.specs.Goals.{asked_goal}
-use Rattle.goal_facts.specs.Impls.{impl_args, assoc_rule, rules_for, impl_rules}
-use Rattle.goal_facts.specs.Reading.{TypeReads}
-use Rattle.goal_facts.specs.Systems.{fact, IsSystemOf}
-use Rattle.goal_facts.proofs.Systems.{each_append}
-use Rattle.goal_prove.specs.Written.{IsWrittenHead, IsWritten}
-use Rattle.goal_prove.proofs.TypeTerms.{top_type}
-use Rattle.infer_result.specs.Projections.{stays_at}
+use Rattle.infer_needs.specs.Words.hir_raw.declared.raw.RawGoal.TheVariants as raw_goal
+use Rattle.infer_needs.specs.Words.goal_answers.Reading.{Role}
+use Rattle.infer_needs.proofs.Words.{or_map, one_some, each_with, ReadsBy, MayReadBy, stands_by, AliasWithin, role_read, read_reads, reads_within, reads_may, reads_one as same_reading, within_itself, refuted_more, one_deeper, occurs_type, answers_sound, answers_read, reads_read as reading_is_read, each_append, top_type}
+use Rattle.infer_needs.specs.Words.goal_facts.Environment.{Follows}
 use Rattle.infer_needs.proofs.NoPlaceholders.{HaveNoHole, GoalHasNoHole, holds_at, args_hold_at, goal_holds_at, each_flat, trait_has_none, preds_have_none, bounds_have_none, impl_has_none, given_has_none}
 
 -- ---- readings

@@ -2,29 +2,11 @@
 use Rattle.std.specs.Prelude.{◌≡◌, ◌⊎◌, ◌≤◌, ℕ, zero, suc, List, [], ◌∷◌, ◌++◌, length, slice_get, Option, Some, None}
 use Rattle.std.proofs.Common.{inl, inr, refl, sym, ap, ◌∙◌, subst, arith}
 use Rattle.std.proofs.lemmas.Option.{same_Some, slice_get_within}
-use Rattle.hir_types.specs.declared.goal.Goal.{Goal}
+use Rattle.infer_needs.specs.Words.{Goal, DefWithBodyId, ExprOrPatId, out-TraitRef, RawBody, RawExpr, RawFacts, IsFront, Asked, System, implements, projects, Answer, Proof, asked_goal, IsProofAt, IsProvedIf, IsChild, AddsChildrenBut, AddsOneRoot, InferenceResult, needs_of, needs_at, pat_needs_at, IsNeeded, IsAboutAlias, recorded, given}
 use Rattle.hir_types.specs.declared.goal.Goal.TheVariants as goal
-use Rattle.hir_types.specs.declared.ids.DefWithBodyId.{DefWithBodyId}
-use Rattle.hir_types.specs.declared.ids.ExprOrPatId.{ExprOrPatId}
 use Rattle.hir_types.specs.declared.ids.ExprOrPatId.TheVariants as node
-use Rattle.hir_types.specs.declared.ty.TraitRef.{out-TraitRef}
-use Rattle.hir_raw.specs.declared.raw.RawBody.{RawBody}
-use Rattle.hir_raw.specs.declared.raw.RawExpr.{RawExpr}
-use Rattle.hir_raw.specs.declared.raw.RawFacts.{RawFacts}
-use Rattle.infer_table.specs.Table.{IsFront}
-use Rattle.infer_table.proofs.BindingLaws.{get_left, get_more}
-use Rattle.goal_answers.specs.Goals.{Asked, System, implements, projects}
-use Rattle.goal_search.specs.declared.answer.Answer.{Answer}
-use Rattle.goal_facts.specs.declared.proof.Proof.{Proof}
-use Rattle.goal_facts.specs.Goals.{asked_goal}
-use Rattle.goal_prove.specs.Entries.{IsProofAt, IsProvedIf, IsChild, AddsChildrenBut, AddsOneRoot}
-use Rattle.infer_result.specs.declared.result.InferenceResult.{InferenceResult}
-use Rattle.infer_result.specs.Needs.{needs_of, needs_at, pat_needs_at, IsNeeded}
-use Rattle.infer_result.specs.Projections.{IsAboutAlias}
-use Rattle.infer_result.specs.Table.{recorded}
-use Rattle.infer_result.specs.Typed.{given}
-use Rattle.infer_needs.specs.Told.{first_needs, first_pat_needs, all_needs, AreAnswered, IsAboutTrait, IsOneOf, AreRootsOf, AddsRootsOf, RootsAreNeeded, WasTold, RootsAreTold}
-use Rattle.goal_prove.proofs.Children.{child_later}
+use Rattle.infer_needs.proofs.Words.{get_left, get_more, child_later}
+use Rattle.infer_needs.specs.Own.{first_needs, first_pat_needs, all_needs, AreAnswered, IsAboutTrait, IsOneOf, AreRootsOf, AddsRootsOf, RootsAreNeeded, WasTold, RootsAreTold}
 
 -- ---- places of lists
 

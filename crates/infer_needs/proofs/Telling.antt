@@ -1,20 +1,8 @@
 -- What is told after one another.
 use Rattle.std.specs.Prelude.{◌≡◌, ◌+◌, ◌++◌, ℕ, zero, suc, List, [], ◌∷◌, length, slice_get, Option, Some, refl}
 use Rattle.std.proofs.Common.{sym, ap, ◌∙◌, subst, arith, append_assoc, append-nil}
-use Rattle.hir_types.specs.declared.goal.Goal.{Goal}
-use Rattle.hir_types.specs.declared.ty.Ty.{Ty}
-use Rattle.hir_raw.specs.declared.raw.RawBody.{RawBody}
-use Rattle.hir_raw.specs.declared.raw.RawExpr.{RawExpr}
-use Rattle.hir_raw.specs.declared.raw.RawFacts.{RawFacts}
-use Rattle.goal_answers.specs.Goals.{Asked, System}
-use Rattle.goal_search.specs.declared.answer.Answer.{Answer}
-use Rattle.goal_facts.specs.Goals.{asked_goal, IsAnswer}
-use Rattle.goal_facts.specs.declared.proof.Proof.{Proof}
-use Rattle.infer_result.specs.declared.gaps.Gap.{Gap}
-use Rattle.infer_result.specs.declared.result.InferenceResult.{InferenceResult}
-use Rattle.infer_result.specs.Needs.{with_goals, needs_of, needs_at, pat_needs_at}
-use Rattle.infer_result.specs.Table.{recorded}
-use Rattle.infer_needs.specs.Told.{first_needs, first_pat_needs, all_needs, AreAnswered, ListsAnswers}
+use Rattle.infer_needs.specs.Words.{Goal, Ty, RawBody, RawExpr, RawFacts, Asked, System, Answer, asked_goal, IsAnswer, Proof, Gap, InferenceResult, with_goals, needs_of, needs_at, pat_needs_at, recorded}
+use Rattle.infer_needs.specs.Own.{first_needs, first_pat_needs, all_needs, AreAnswered, ListsAnswers}
 
 answered_both : (f : System) (n : ℕ) (xs bs : List Asked) (ts us : List (Goal × Answer)) → AreAnswered f n xs ts → AreAnswered f n bs us → AreAnswered f n (xs ++ bs) (ts ++ us)
 answered_both f n [] bs [] us h k = k

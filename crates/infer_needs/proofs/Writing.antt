@@ -4,56 +4,16 @@ use Rattle.std.specs.Option.{option_and_then}
 use Rattle.std.proofs.Common.{inl, inr, refl, sym, ap, ◌∙◌, subst, arith}
 use Rattle.std.proofs.Math.Nat.{eq-or-lt_of_le}
 use Rattle.std.proofs.lemmas.Option.{same_Some, slice_get_within}
-use Rattle.hir_types.specs.declared.goal.Goal.{Goal}
+use Rattle.infer_needs.specs.Words.{Goal, DefWithBodyId, ExprOrPatId, GenericDefId, TypeAliasId, TypeRefId, GenericArg, TraitRef, out-TraitRef, Ty, Term, hole, leaf, pair, chain, term, arg_term, parts_of_types, term_bool, term_char, term_int, term_uint, term_tuple, term_adt, term_param, term_projection, term_error, term_hole, arg_term_type, RawBody, RawExpr, RawFacts, RawType, let_aliases, filled_by, filled_within, lowered, IsLawful, IsFront, Asked, System, implements, projects, answers, alias, role, alias_at, ReadsAs, Proof, asked_goal, IsSystemOf, IsWritten, Gap, InferenceResult, AllTypes, with_goals, scope_item, needs_of, pat_needs_of, node_needs, HoldsPlaceholder, aliases_of, Given, IsPartOf, StaysOrIsListed, NoneIsLeft, recorded, given, args_term, IsListedOnceRead, WrittenAreListed, AboutIsListed, AllWrittenAreListed}
 use Rattle.hir_types.specs.declared.goal.Goal.TheVariants as goal
 use Rattle.hir_types.specs.declared.head.Head.TheVariants as head
-use Rattle.hir_types.specs.declared.ids.DefWithBodyId.{DefWithBodyId}
-use Rattle.hir_types.specs.declared.ids.ExprOrPatId.{ExprOrPatId}
 use Rattle.hir_types.specs.declared.ids.ExprOrPatId.TheVariants as node
-use Rattle.hir_types.specs.declared.ids.GenericDefId.{GenericDefId}
-use Rattle.hir_types.specs.declared.ids.TypeAliasId.{TypeAliasId}
-use Rattle.hir_types.specs.declared.ids.TypeRefId.{TypeRefId}
 use Rattle.hir_types.specs.declared.ty.IntegerTy.TheVariants.{Int, Uint}
-use Rattle.hir_types.specs.declared.ty.GenericArg.{GenericArg}
 use Rattle.hir_types.specs.declared.ty.GenericArg.TheVariants as arg
-use Rattle.hir_types.specs.declared.ty.TraitRef.{TraitRef, out-TraitRef}
-use Rattle.hir_types.specs.declared.ty.Ty.{Ty}
 use Rattle.hir_types.specs.declared.ty.Ty.TheVariants as ty
-use Rattle.hir_types.specs.Terms.{Term, hole, leaf, pair, chain, term, arg_term}
-use Rattle.hir_types.specs.TermLaws.{parts_of_types, term_bool, term_char, term_int, term_uint, term_tuple, term_adt, term_param, term_projection, term_error, term_hole, arg_term_type}
-use Rattle.hir_raw.specs.declared.raw.RawBody.{RawBody}
-use Rattle.hir_raw.specs.declared.raw.RawExpr.{RawExpr}
-use Rattle.hir_raw.specs.declared.raw.RawFacts.{RawFacts}
-use Rattle.hir_raw.specs.declared.raw.RawType.{RawType}
-use Rattle.hir_raw.specs.declared.raw.RawType.TheVariants as type
-use Rattle.hir_raw.specs.Lets.{let_aliases}
-use Rattle.hir_raw.specs.WrittenTypes.{filled_by, filled_within, lowered}
-use Rattle.hir_facts.specs.Lawful.{IsLawful}
-use Rattle.infer_table.specs.Table.{IsFront}
-use Rattle.goal_answers.specs.Goals.{Asked, System, implements, projects}
-use Rattle.goal_answers.specs.Answers.{answers}
-use Rattle.goal_answers.specs.Reading.{alias, role, alias_at, ReadsAs}
-use Rattle.goal_answers.proofs.Levels.{answers_read, reads_read as reading_is_read}
-use Rattle.goal_answers.proofs.One.{answers_sound}
-use Rattle.goal_answers.proofs.Readings.{reads_one as same_reading}
-use Rattle.goal_facts.specs.declared.proof.Proof.{Proof}
-use Rattle.goal_facts.specs.Goals.{asked_goal}
-use Rattle.goal_facts.specs.Systems.{IsSystemOf}
-use Rattle.goal_prove.specs.Written.{IsWritten}
-use Rattle.infer_result.specs.declared.gaps.Gap.{Gap}
-use Rattle.infer_result.specs.declared.result.InferenceResult.{InferenceResult}
-use Rattle.infer_result.specs.Closed.{AllTypes}
-use Rattle.infer_result.specs.Needs.{with_goals, scope_item, needs_of, pat_needs_of, node_needs}
-use Rattle.infer_result.specs.OwnTypes.{HoldsPlaceholder, aliases_of}
-use Rattle.infer_result.specs.Places.{Given}
-use Rattle.infer_result.specs.Projections.{IsPartOf, StaysOrIsListed, NoneIsLeft}
-use Rattle.infer_result.specs.Table.{recorded}
-use Rattle.infer_result.specs.Typed.{given}
-use Rattle.infer_result.specs.WrittenAliases.{args_term, IsListedOnceRead, WrittenAreListed, AboutIsListed, AllWrittenAreListed}
-use Rattle.infer_needs.specs.FitTerms.{FitsIn}
-use Rattle.infer_needs.specs.Judged.{IsProvable, AreProvable, CanPatsBeProved}
-use Rattle.infer_needs.specs.Left.{Lists, IsFinal}
-use Rattle.infer_needs.specs.Written.{IsAsWritten, ListedAt, ListedHere, TypeIsListed, TypesAreListed, GoalIsListed, GoalsAreListed, ExprsAreListed, CanItemsBeProved, ItemsAreListed, AreAllListed}
+use Rattle.infer_needs.specs.Words.hir_raw.declared.raw.RawType.TheVariants as type
+use Rattle.infer_needs.proofs.Words.{answers_read, reads_read as reading_is_read, answers_sound, reads_one as same_reading}
+use Rattle.infer_needs.specs.Own.{FitsIn, IsProvable, AreProvable, CanPatsBeProved, Lists, IsFinal, IsAsWritten, ListedAt, ListedHere, TypeIsListed, TypesAreListed, GoalIsListed, GoalsAreListed, ExprsAreListed, CanItemsBeProved, ItemsAreListed, AreAllListed}
 use Rattle.infer_needs.proofs.Leaving.{stays_later, table_later, read_then, lists_nothing, lists_both}
 use Rattle.infer_needs.proofs.ReadsYes.{term_reads_written}
 use Rattle.infer_needs.proofs.ReadsFit.{reads_fit}

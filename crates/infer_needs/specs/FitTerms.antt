@@ -1,17 +1,7 @@
 -- Which terms those of types that fit are, and which goals fit: what is named takes as many arguments as it is given, and each parameter is in scope.
 use Rattle.std.specs.Prelude.{◌≡◌, ℕ, Bool, true, false, ◌&&◌, nat_lt, List, slice_get, Option, Some}
-use Rattle.hir_types.specs.declared.head.Head.{Head}
+use Rattle.infer_needs.specs.Words.{Head, GenericDefId, TypeAliasId, Ty, Term, hole, leaf, pair, term, RawFacts, adt_params, alias_params, callable_params, has_params, generic_params, width, Kind, implements, projects, Asked, Each, staying, alias_at, IsPartOf}
 use Rattle.hir_types.specs.declared.head.Head.TheVariants as head
-use Rattle.hir_types.specs.declared.ids.GenericDefId.{GenericDefId}
-use Rattle.hir_types.specs.declared.ids.TypeAliasId.{TypeAliasId}
-use Rattle.hir_types.specs.declared.ty.Ty.{Ty}
-use Rattle.hir_types.specs.Terms.{Term, hole, leaf, pair, term}
-use Rattle.hir_raw.specs.declared.raw.RawFacts.{RawFacts}
-use Rattle.hir_raw.specs.Scope.{adt_params, alias_params, callable_params, has_params, generic_params}
-use Rattle.infer_table.specs.Preserved.{width}
-use Rattle.goal_answers.specs.Goals.{Kind, implements, projects, Asked, Each}
-use Rattle.goal_answers.specs.Reading.{staying, alias_at}
-use Rattle.infer_result.specs.Projections.{IsPartOf}
 
 -- ---- terms
 

@@ -1,21 +1,10 @@
 -- Types that a table lists for associated types, and those in what it says could not be shown: they name what the facts have, and have no holes.
 use Rattle.std.specs.Prelude.{◌≡◌, ℕ, List, slice_get, Some, IsTrue}
-use Rattle.hir_types.specs.declared.ids.ExprOrPatId.{ExprOrPatId}
-use Rattle.hir_types.specs.declared.goal.Goal.{Goal}
+use Rattle.infer_needs.specs.Words.{ExprOrPatId, Goal, GenericArg, out-TraitRef, Ty, IsClosed, ty_fits, Scope, Gap, InferenceResult, HasGap, Given}
 use Rattle.hir_types.specs.declared.goal.Goal.TheVariants as goal
-use Rattle.hir_types.specs.declared.ty.GenericArg.{GenericArg}
 use Rattle.hir_types.specs.declared.ty.GenericArg.TheVariants as arg
-use Rattle.hir_types.specs.declared.ty.TraitRef.{out-TraitRef}
-use Rattle.hir_types.specs.declared.ty.Ty.{Ty}
 use Rattle.hir_types.specs.declared.ty.Ty.TheVariants as ty
-use Rattle.hir_types.specs.Erasure.{IsClosed}
-use Rattle.hir_raw.specs.Fit.{ty_fits}
-use Rattle.hir_raw.specs.Scope.{Scope}
-use Rattle.infer_result.specs.declared.gaps.Gap.{Gap}
 use Rattle.infer_result.specs.declared.gaps.Gap.TheVariants as gap
-use Rattle.infer_result.specs.declared.result.InferenceResult.{InferenceResult}
-use Rattle.infer_result.specs.Needs.{HasGap}
-use Rattle.infer_result.specs.Places.{Given}
 
 -- the type names what there is, and neither a hole nor `_` stands in it
 pub record IsFitType (sc : Scope) (t : Ty) : Type 0 where

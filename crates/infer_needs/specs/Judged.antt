@@ -1,35 +1,10 @@
 -- What becomes of goals that nodes need.
 use Rattle.std.specs.Prelude.{◌≡◌, ◌⊎◌, ◌++◌, ℕ, Bool, true, false, List, [], ◌∷◌, length, slice_get, Some}
-use Rattle.hir_types.specs.declared.ids.ExprOrPatId.{ExprOrPatId}
+use Rattle.infer_needs.specs.Words.{ExprOrPatId, GenericDefId, TypeAliasId, Goal, GenericArg, Ty, Same, term, RawBody, RawExpr, RawFacts, IsFront, Asked, System, Each, answers, IsRead, Proof, asked_goal, AddsProofs, IsWritten, Gap, InferenceResult, AllTypes, IsListedAs, GoalReads, HasEntry, IsAboutAlias, stays_at, NoneIsLeft, CannotHold, MayHold, HoldsUnknown, Saying, gap_says, needs_of, needs_at, pat_needs_at, recorded}
 use Rattle.hir_types.specs.declared.ids.ExprOrPatId.TheVariants as node
-use Rattle.hir_types.specs.declared.ids.GenericDefId.{GenericDefId}
-use Rattle.hir_types.specs.declared.ids.TypeAliasId.{TypeAliasId}
-use Rattle.hir_types.specs.declared.goal.Goal.{Goal}
 use Rattle.hir_types.specs.declared.goal.Goal.TheVariants as goal
-use Rattle.hir_types.specs.declared.ty.GenericArg.{GenericArg}
-use Rattle.hir_types.specs.declared.ty.Ty.{Ty}
 use Rattle.hir_types.specs.declared.ty.Ty.TheVariants as ty
-use Rattle.hir_types.specs.Erasure.{Same}
-use Rattle.hir_types.specs.Terms.{term}
-use Rattle.hir_raw.specs.declared.raw.RawBody.{RawBody}
-use Rattle.hir_raw.specs.declared.raw.RawExpr.{RawExpr}
-use Rattle.hir_raw.specs.declared.raw.RawFacts.{RawFacts}
-use Rattle.infer_table.specs.Table.{IsFront}
-use Rattle.goal_answers.specs.Goals.{Asked, System, Each}
-use Rattle.goal_answers.specs.Answers.{answers}
-use Rattle.goal_answers.specs.Reading.{IsRead}
-use Rattle.goal_facts.specs.declared.proof.Proof.{Proof}
-use Rattle.goal_facts.specs.Goals.{asked_goal}
-use Rattle.goal_prove.specs.Entries.{AddsProofs}
-use Rattle.goal_prove.specs.Written.{IsWritten}
-use Rattle.infer_result.specs.declared.gaps.Gap.{Gap}
 use Rattle.infer_result.specs.declared.gaps.Gap.TheVariants as gap
-use Rattle.infer_result.specs.declared.result.InferenceResult.{InferenceResult}
-use Rattle.infer_result.specs.Closed.{AllTypes}
-use Rattle.infer_result.specs.Projections.{IsListedAs, GoalReads, HasEntry, IsAboutAlias, stays_at, NoneIsLeft}
-use Rattle.infer_result.specs.CannotHold.{CannotHold, MayHold}
-use Rattle.infer_result.specs.Needs.{HoldsUnknown, Saying, gap_says, needs_of, needs_at, pat_needs_at}
-use Rattle.infer_result.specs.Table.{recorded}
 use Rattle.infer_needs.specs.Listed.{FindsIn}
 use Rattle.infer_needs.specs.FitTerms.{EntryFitsIn}
 use Rattle.infer_needs.specs.Told.{AddsRootsOf, first_pat_needs}

@@ -1,24 +1,9 @@
 -- Associated types in the types of a table: each that could be read is listed with what it reads as.
 use Rattle.std.specs.Prelude.{◌≡◌, ◌⊎◌, ℕ, List, [], slice_get, Option, Some, None}
-use Rattle.hir_types.specs.declared.ids.ExprId.{ExprId}
-use Rattle.hir_types.specs.declared.ids.GenericDefId.{GenericDefId}
-use Rattle.hir_types.specs.declared.ids.TypeAliasId.{TypeAliasId}
-use Rattle.hir_types.specs.declared.ty.GenericArg.{GenericArg}
-use Rattle.hir_types.specs.declared.ty.Ty.{Ty}
+use Rattle.infer_needs.specs.Words.{ExprId, GenericDefId, TypeAliasId, GenericArg, Ty, Term, leaf, pair, term, RawFacts, System, IsRead, Proof, TypeReads, AddsProofs, IsWritten, TypeMismatch, InferenceDiagnostic, IsPartOf, stays_at, StaysOrIsListed}
 use Rattle.hir_types.specs.declared.ty.Ty.TheVariants as ty
 use Rattle.hir_types.specs.declared.head.Head.TheVariants as head
-use Rattle.hir_types.specs.Terms.{Term, leaf, pair, term}
-use Rattle.hir_raw.specs.declared.raw.RawFacts.{RawFacts}
-use Rattle.goal_answers.specs.Goals.{System}
-use Rattle.goal_answers.specs.Reading.{IsRead}
-use Rattle.goal_facts.specs.declared.proof.Proof.{Proof}
-use Rattle.goal_facts.specs.Reading.{TypeReads}
-use Rattle.goal_prove.specs.Entries.{AddsProofs}
-use Rattle.goal_prove.specs.Written.{IsWritten}
-use Rattle.infer_result.specs.declared.result.TypeMismatch.{TypeMismatch}
-use Rattle.infer_result.specs.declared.diagnostics.InferenceDiagnostic.{InferenceDiagnostic}
 use Rattle.infer_result.specs.declared.diagnostics.InferenceDiagnostic.TheVariants as diagnostic
-use Rattle.infer_result.specs.Projections.{IsPartOf, stays_at, StaysOrIsListed}
 use Rattle.infer_needs.specs.FitTerms.{FitsIn, EntriesFitIn}
 use Rattle.infer_needs.specs.Judged.{AddsEntries}
 use Rattle.infer_needs.specs.Told.{AddsRootsOf}

@@ -6,3 +6,5 @@ pub mod Left
 pub mod Written
 pub mod Told
 pub mod Fits
+pub mod Words
+pub mod Own

@@ -1,7 +1,7 @@
 -- Lists of associated types with what each was found to be.
 use Rattle.std.specs.Prelude.{◌≡◌, ℕ, List, slice_get, Option, Some, None}
 use Rattle.std.specs.HashMap.{HashMap, get}
-use Rattle.hir_types.specs.declared.ty.Ty.{Ty}
+use Rattle.infer_needs.specs.Words.{Ty}
 use Rattle.hir_types.proofs.Equal.{ty_eq}
 
 -- the associated type is listed as this type; or as none

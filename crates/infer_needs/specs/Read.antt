@@ -1,13 +1,6 @@
 -- What goals read as.
 use Rattle.std.specs.Prelude.{ℕ, List, [], ◌∷◌, Option, Some, None}
-use Rattle.hir_types.specs.declared.goal.Goal.{Goal}
-use Rattle.hir_raw.specs.declared.raw.RawFacts.{RawFacts}
-use Rattle.goal_answers.specs.Goals.{Asked, System}
-use Rattle.goal_facts.specs.declared.proof.Proof.{Proof}
-use Rattle.goal_facts.specs.Goals.{asked_goal}
-use Rattle.goal_prove.specs.Entries.{AddsProofs}
-use Rattle.goal_prove.specs.Written.{IsWritten}
-use Rattle.infer_result.specs.Projections.{GoalReads}
+use Rattle.infer_needs.specs.Words.{Goal, RawFacts, Asked, System, Proof, asked_goal, AddsProofs, IsWritten, GoalReads}
 use Rattle.infer_needs.specs.Judged.{HasProofOf}
 use Rattle.infer_needs.specs.Told.{AddsRootsOf}
 

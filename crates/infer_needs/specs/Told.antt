@@ -2,21 +2,8 @@
 use Rattle.std.specs.Prelude.{◌≡◌, ◌++◌, ℕ, zero, suc, List, [], ◌∷◌, length, slice_get, Option, Some, None}
 use Rattle.std.proofs.Common.{◌⊎◌, inl, inr}
 use denote.Ref.{MutBor}
-use Rattle.hir_types.specs.declared.ids.DefWithBodyId.{DefWithBodyId}
-use Rattle.hir_types.specs.declared.ids.ExprOrPatId.{ExprOrPatId}
-use Rattle.hir_types.specs.declared.goal.Goal.{Goal}
+use Rattle.infer_needs.specs.Words.{DefWithBodyId, ExprOrPatId, Goal, RawBody, RawFacts, Asked, System, Answer, Proof, asked_goal, IsAnswer, IsSystemOf, IsChild, InferenceResult, needs_at, pat_needs_at, scope_item, IsNeeded, Given}
 use Rattle.hir_types.specs.declared.goal.Goal.TheVariants as goal
-use Rattle.hir_raw.specs.declared.raw.RawBody.{RawBody}
-use Rattle.hir_raw.specs.declared.raw.RawFacts.{RawFacts}
-use Rattle.goal_answers.specs.Goals.{Asked, System}
-use Rattle.goal_search.specs.declared.answer.Answer.{Answer}
-use Rattle.goal_facts.specs.declared.proof.Proof.{Proof}
-use Rattle.goal_facts.specs.Goals.{asked_goal, IsAnswer}
-use Rattle.goal_facts.specs.Systems.{IsSystemOf}
-use Rattle.goal_prove.specs.Entries.{IsChild}
-use Rattle.infer_result.specs.declared.result.InferenceResult.{InferenceResult}
-use Rattle.infer_result.specs.Needs.{needs_at, pat_needs_at, scope_item, IsNeeded}
-use Rattle.infer_result.specs.Places.{Given}
 
 -- ---- what nodes need
 

@@ -1,26 +1,7 @@
 -- Associated types that a definition, its `let`s and the goals of its nodes are written with: each is listed with what it reads as, at what its
 -- arguments read as.
 use Rattle.std.specs.Prelude.{◌≡◌, ◌⊎◌, ℕ, List, slice_get, Option, Some}
-use Rattle.hir_types.specs.declared.ids.DefWithBodyId.{DefWithBodyId}
-use Rattle.hir_types.specs.declared.ids.GenericDefId.{GenericDefId}
-use Rattle.hir_types.specs.declared.ids.TypeAliasId.{TypeAliasId}
-use Rattle.hir_types.specs.declared.ty.GenericArg.{GenericArg}
-use Rattle.hir_types.specs.declared.ty.Ty.{Ty}
-use Rattle.hir_types.specs.Terms.{Term, hole, leaf, pair, term}
-use Rattle.hir_raw.specs.declared.raw.RawBody.{RawBody}
-use Rattle.hir_raw.specs.declared.raw.RawExpr.{RawExpr}
-use Rattle.hir_raw.specs.declared.raw.RawFacts.{RawFacts}
-use Rattle.hir_raw.specs.declared.raw.RawType.{RawType}
-use Rattle.hir_raw.specs.Lets.{let_aliases}
-use Rattle.hir_raw.specs.WrittenTypes.{lowered}
-use Rattle.goal_answers.specs.Goals.{Asked, System}
-use Rattle.goal_answers.specs.Reading.{alias_at}
-use Rattle.goal_prove.specs.Written.{IsWrittenHead}
-use Rattle.infer_result.specs.declared.result.InferenceResult.{InferenceResult}
-use Rattle.infer_result.specs.Needs.{needs_of, pat_needs_of}
-use Rattle.infer_result.specs.OwnTypes.{HoldsPlaceholder, aliases_of}
-use Rattle.infer_result.specs.Table.{recorded}
-use Rattle.infer_result.specs.WrittenAliases.{args_term, IsListedOnceRead, WrittenAreListed, AboutIsListed}
+use Rattle.infer_needs.specs.Words.{DefWithBodyId, GenericDefId, TypeAliasId, GenericArg, Ty, Term, hole, leaf, pair, term, RawBody, RawExpr, RawFacts, RawType, let_aliases, lowered, Asked, System, alias_at, IsWrittenHead, InferenceResult, needs_of, pat_needs_of, HoldsPlaceholder, aliases_of, recorded, args_term, IsListedOnceRead, WrittenAreListed, AboutIsListed}
 use Rattle.infer_needs.specs.FitTerms.{FitsIn, GoalsFitIn}
 use Rattle.infer_needs.specs.Judged.{AreProvable}
 

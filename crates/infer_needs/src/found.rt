@@ -1,8 +1,8 @@
 //! What associated types were found to be.
 ghost use Rattle.std.specs.Prelude.{◌≡◌, ◌++◌, ◌∷◌, [], None, OnOk, option_map};
-ghost use Rattle.infer_needs.specs.Listed.{FindsIn, AreDistinct};
+ghost use Rattle.infer_needs.specs.Own.{FindsIn, AreDistinct};
 
-use hir_facts::Ty;
+use infer_goals::hir_facts::Ty;
 use std::alloc::{AllocError, Global};
 use std::collections::HashMap;
 use std::marker::Model;
@@ -20,7 +20,7 @@ impl Model for Found {
     ghost use Rattle.std.specs.Coded.{codes};
     ghost use Rattle.std.specs.Prelude.{List};
     ghost use Rattle.hir_types.specs.contracts.ty.Ty as ty;
-    ghost use Rattle.hir_types.specs.declared.ty.Ty.{Ty};
+    ghost use Rattle.infer_needs.specs.Words.{Ty};
     ghost use Rattle.infer_needs.specs.Listed.{IsIndexed};
 
     ghost Value = { List (Ty × Ty) };

@@ -1,21 +1,15 @@
 //! Associated types that are left in the types of a table: what those read as that don't stay is listed.
 ghost use Rattle.std.specs.Prelude.{◌≡◌, List, map, OnOk};
-ghost use Rattle.hir_types.specs.declared.ty.GenericArg.{GenericArg};
-ghost use Rattle.hir_types.specs.Terms.{chain, arg_term};
-ghost use Rattle.goal_search.specs.Sources.{system};
-ghost use Rattle.goal_terms.specs.Terms.{term_of};
-ghost use Rattle.infer_result.specs.Closed.{AllTypes};
-ghost use Rattle.infer_result.specs.Projections.{StaysOrIsListed, NoneIsLeft};
-ghost use Rattle.infer_needs.specs.FitTerms.{TakesThese, MayFollow};
-ghost use Rattle.infer_needs.specs.Left.{WereRead, Lists, IsFinal, IsFinalType, staying_head, NoneHere, NoneStands, StandsInType, StandsInMismatch, StandsInDiagnostic, EachIn, EachOf};
+ghost use Rattle.infer_needs.specs.Words.{GenericArg, chain, arg_term, system, term_of, AllTypes, StaysOrIsListed, NoneIsLeft};
+ghost use Rattle.infer_needs.specs.Own.{TakesThese, MayFollow, WereRead, Lists, IsFinal, IsFinalType, staying_head, NoneHere, NoneStands, StandsInType, StandsInMismatch, StandsInDiagnostic, EachIn, EachOf};
 
 use crate::found::Found;
 use crate::unknown::holds_unknown;
-use goal_facts::{ItemSources, Proof};
 use goal_prove::prove_goal;
-use goal_terms::{Term, args_term, staying_term, term_args, type_term};
-use hir_facts::{Goal, Ty, TypeAliasId};
 use hir_types::Head;
+use infer_goals::goal_facts::{ItemSources, Proof};
+use infer_goals::goal_terms::{Term, args_term, staying_term, term_args, type_term};
+use infer_goals::hir_facts::{Goal, Ty, TypeAliasId};
 use infer_result::{InferenceDiagnostic, InferenceResult, TypeMismatch};
 use std::alloc::{AllocError, Global};
 
@@ -68,7 +62,7 @@ pub fn look_at_alias(
 }
 
 /// The associated type that stays over the arguments that follow, if this is one.
-#[tactic(auto, using(goal_terms::specs::Terms::term_is))]
+#[tactic(auto, using(crate::specs::Words::term_is))]
 fn staying_alias(first: &Term) -> Option<TypeAliasId>
     ensures { result ≡ staying_head (term_of first.now) }
 {
@@ -99,7 +93,7 @@ fn look_at_head(
 }
 
 /// The same of each associated type in a term.
-#[tactic(auto, using(goal_terms::specs::Terms::term_is))]
+#[tactic(auto, using(crate::specs::Words::term_is))]
 fn look_at(
     alloc: Global,
     sources: &ItemSources<'_>,

@@ -1,21 +1,16 @@
 //! What associated types are by goals that have a proof.
 ghost use Rattle.std.specs.Prelude.{◌↔◌, IsTrue, IfOk, OnOk, ◌≡◌};
-ghost use Rattle.hir_types.specs.Terms.{term};
-ghost use Rattle.goal_answers.specs.Answers.{answers};
-ghost use Rattle.goal_search.specs.Sources.{system};
-ghost use Rattle.goal_facts.specs.Goals.{asked_goal};
-ghost use Rattle.infer_result.specs.Projections.{IsAboutAlias, stays_at};
-ghost use Rattle.infer_needs.specs.Judged.{IsProvable, HasProofOf, IsListedNow, Notes};
-ghost use Rattle.infer_needs.specs.Read.{AddsProofOf};
+ghost use Rattle.infer_needs.specs.Words.{term, answers, system, asked_goal, IsAboutAlias, stays_at};
+ghost use Rattle.infer_needs.specs.Own.{IsProvable, HasProofOf, IsListedNow, Notes, AddsProofOf};
 
 use crate::found::Found;
 use crate::read::read_goal;
 use crate::say::say;
 use crate::unknown::holds_unknown;
-use goal_facts::{ItemSources, Proof, asked, is_same};
 use goal_prove::prove_goal;
-use goal_terms::{args_term, staying_term, type_term};
-use hir_facts::{ExprOrPatId, GenericArg, Goal, List, Ty, TypeAliasId};
+use infer_goals::goal_facts::{ItemSources, Proof, asked, is_same};
+use infer_goals::goal_terms::{args_term, staying_term, type_term};
+use infer_goals::hir_facts::{ExprOrPatId, GenericArg, Goal, List, Ty, TypeAliasId};
 use infer_result::Gap;
 use std::alloc::{AllocError, Global};
 

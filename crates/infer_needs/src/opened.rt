@@ -1,18 +1,15 @@
 //! Goals in which `{unknown}` stands: whether they could hold with other types in its place.
 ghost use Rattle.std.specs.Prelude.{◌≡◌, IfOk};
-ghost use Rattle.hir_types.specs.Terms.{leaf};
-ghost use Rattle.goal_terms.specs.Terms.{term_of};
-ghost use Rattle.goal_search.specs.Sources.{system};
-ghost use Rattle.goal_facts.specs.Goals.{asked_goal, IsAnswer};
-ghost use Rattle.infer_result.specs.CannotHold.{hole_by, hole_for, opened, opened_goal};
-ghost use Rattle.infer_needs.specs.Judged.{MayHoldIf};
+ghost use Rattle.infer_needs.specs.Words.{leaf, term_of, system, asked_goal, IsAnswer, hole_by, hole_for, opened_goal};
+ghost use Rattle.infer_result.specs.CannotHold.{opened};
+ghost use Rattle.infer_needs.specs.Own.{MayHoldIf};
 
 use crate::unknown::holds_unknown;
-use goal_facts::{Answer, ItemSources, asked};
-use goal_search::{Asked, Holes};
-use goal_terms::Term;
-use hir_facts::Goal;
 use hir_types::{Head, Hole};
+use infer_goals::goal_facts::{Answer, ItemSources, asked};
+use infer_goals::goal_search::{Asked, Holes};
+use infer_goals::goal_terms::Term;
+use infer_goals::hir_facts::Goal;
 use std::alloc::{AllocError, Global};
 
 /// The hole of this number for a type or const with the head, where that is `{unknown}`.
@@ -27,7 +24,7 @@ fn hole_of(head: Head, number: usize) -> Option<Hole>
 }
 
 /// The same for one that begins so.
-#[tactic(auto, using(goal_terms::specs::Terms::term_is))]
+#[tactic(auto, using(crate::specs::Words::term_is))]
 fn hole_by(first: &Term, number: usize) -> Option<Hole>
     ensures { result ≡ hole_by number (term_of first.now) }
 {
@@ -37,7 +34,7 @@ fn hole_by(first: &Term, number: usize) -> Option<Hole>
     }
 }
 
-#[tactic(auto, using(goal_terms::specs::Terms::term_is))]
+#[tactic(auto, using(crate::specs::Words::term_is))]
 fn hole_for(term: &Term, number: usize) -> Option<Hole>
     ensures { result ≡ hole_for number (term_of term.now) }
 {
@@ -49,7 +46,7 @@ fn hole_for(term: &Term, number: usize) -> Option<Hole>
 
 /// The term with a hole in the place of each `{unknown}` behind something, numbered from `next` on, and
 /// the number after theirs.
-#[tactic(auto, using(goal_terms::specs::Terms::term_is))]
+#[tactic(auto, using(crate::specs::Words::term_is))]
 fn open(alloc: Global, term: &Term, next: usize) -> Result<(Term, usize), AllocError>
     ensures term { IfOk result (λ made. term_of made.0 ≡ (opened next (term_of term.now)).term) }
     ensures next { IfOk result (λ made. made.1 ≡ (opened next (term_of term.now)).next) }

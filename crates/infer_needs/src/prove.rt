@@ -2,20 +2,8 @@
 //! left are looked at once more.
 ghost use Rattle.std.specs.Prelude.{◌≡◌, ◌++◌, [], ◌∷◌, length, map, Some, IfOk, OnOk};
 ghost use Rattle.hir_types.specs.declared.ids.ExprOrPatId.TheVariants as node;
-ghost use Rattle.hir_raw.specs.declared.raw.RawBody.{RawBody};
-ghost use Rattle.hir_facts.specs.Bodies.{body_of};
-ghost use Rattle.goal_search.specs.Sources.{system};
-ghost use Rattle.goal_facts.specs.Goals.{asked_goal, IsAnswer};
-ghost use Rattle.infer_result.specs.Needs.{with_goals, scope_item, GoalsHold, HasNoneLeft, needs_of, pat_needs_at};
-ghost use Rattle.infer_result.specs.WrittenAliases.{AllWrittenAreListed};
-ghost use Rattle.infer_result.specs.Closed.{AllTypes};
-ghost use Rattle.infer_result.specs.Table.{recorded};
-ghost use Rattle.infer_needs.specs.Left.{IsFinalType};
-ghost use Rattle.infer_needs.specs.Fits.{EntriesFit};
-ghost use Rattle.infer_needs.specs.Written.{AreAllListed, AllFitIn};
-ghost use Rattle.infer_result.specs.Typed.{IsTableOf, given};
-ghost use Rattle.infer_needs.specs.Judged.{IsProvable, AreProvable, CanAllBeProved, CanPatsBeProved, FitOrAreSaid, IsSaidUnlessMay, IsJudged, AreJudged, AreAllJudged, ArePatsJudged};
-ghost use Rattle.infer_needs.specs.Told.{ListsAnswers, first_needs, first_pat_needs, AreAllAnswered, AddsRootsOf, RootsAreNeeded};
+ghost use Rattle.infer_needs.specs.Words.{RawBody, body_of, system, asked_goal, IsAnswer, with_goals, scope_item, GoalsHold, HasNoneLeft, needs_of, pat_needs_at, AllWrittenAreListed, AllTypes, recorded, IsTableOf, given};
+ghost use Rattle.infer_needs.specs.Own.{IsFinalType, EntriesFit, AreAllListed, AllFitIn, IsProvable, AreProvable, CanAllBeProved, CanPatsBeProved, FitOrAreSaid, IsSaidUnlessMay, IsJudged, AreJudged, AreAllJudged, ArePatsJudged, ListsAnswers, first_needs, first_pat_needs, AreAllAnswered, AddsRootsOf, RootsAreNeeded};
 
 use crate::found::Found;
 use crate::left::look_at_table;
@@ -23,9 +11,9 @@ use crate::note::note;
 use crate::opened::may_hold;
 use crate::say::say;
 use crate::written::look_at_written;
-use goal_facts::{Answer, ItemSources, Proof};
 use goal_prove::prove_goal;
-use hir_facts::{
+use infer_goals::goal_facts::{Answer, ItemSources, Proof};
+use infer_goals::hir_facts::{
     AdtId, DefWithBodyId, ExprOrPatId, Facts, GenericDefId, Goal, List, RawBody, RawExpr,
 };
 use infer_result::{Gap, InferenceResult, expr_id, needed_goals, pat_id, pat_needs};

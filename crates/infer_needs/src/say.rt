@@ -1,10 +1,10 @@
 //! What could not be shown at a node is said once.
 ghost use Rattle.std.specs.Prelude.{◌≡◌, ◌↔◌, IsTrue, IfOk, OnOk};
-ghost use Rattle.infer_result.specs.Needs.{gap_says};
-ghost use Rattle.infer_needs.specs.Judged.{IsAmong, IsSaidOnce};
+ghost use Rattle.infer_needs.specs.Words.{gap_says};
+ghost use Rattle.infer_needs.specs.Own.{IsAmong, IsSaidOnce};
 
-use goal_facts::{asked, is_same};
-use hir_facts::List;
+use infer_goals::goal_facts::{asked, is_same};
+use infer_goals::hir_facts::List;
 use infer_result::Gap;
 use std::alloc::{AllocError, Global};
 

@@ -1,13 +1,10 @@
 //! Whether `{unknown}` stands in a goal.
 ghost use Rattle.std.specs.Prelude.{◌↔◌, IsTrue, IfOk};
-ghost use Rattle.hir_types.specs.Terms.{leaf};
-ghost use Rattle.goal_terms.specs.Terms.{term_of};
-ghost use Rattle.goal_facts.specs.Goals.{asked_goal};
-ghost use Rattle.infer_result.specs.Needs.{HoldsUnknown};
+ghost use Rattle.infer_needs.specs.Words.{leaf, term_of, asked_goal, HoldsUnknown};
 
-use goal_terms::{Term, args_term, type_term};
-use hir_facts::Goal;
 use hir_types::Head;
+use infer_goals::goal_terms::{Term, args_term, type_term};
+use infer_goals::hir_facts::Goal;
 use std::alloc::{AllocError, Global};
 
 fn is_unknown(head: Head) -> bool
@@ -20,7 +17,7 @@ fn is_unknown(head: Head) -> bool
 }
 
 /// Whether it stands in a term.
-#[tactic(auto, using(goal_terms::specs::Terms::term_is))]
+#[tactic(auto, using(crate::specs::Words::term_is))]
 fn stands_in(term: &Term) -> bool
     ensures { IsTrue result ↔ HoldsUnknown (term_of term.now) }
 {

@@ -1,34 +1,20 @@
 //! Associated types that are written in what a definition takes and gives, in the types of its `let`s, and in goals
 //! that its nodes need: what each reads as is listed.
 ghost use Rattle.std.specs.Prelude.{◌≡◌, ◌↔◌, IsTrue, IfOk, OnOk, map, option_map, Some};
-ghost use Rattle.hir_types.specs.Terms.{leaf, hole};
-ghost use Rattle.goal_answers.specs.Answers.{answers};
-ghost use Rattle.goal_answers.specs.Reading.{alias_at};
-ghost use Rattle.goal_answers.specs.Steps.{ReadingIs};
-ghost use Rattle.goal_facts.specs.Goals.{asked_goal};
-ghost use Rattle.goal_facts.specs.Systems.{IsSystemOf};
-ghost use Rattle.goal_search.specs.Sources.{system};
-ghost use Rattle.goal_terms.specs.Terms.{term_of, HasHeads};
-ghost use Rattle.infer_result.specs.Needs.{needs_of, pat_needs_of};
-ghost use Rattle.infer_result.specs.OwnTypes.{HoldsPlaceholder, aliases_of};
-ghost use Rattle.infer_result.specs.Table.{recorded};
-ghost use Rattle.infer_result.specs.WrittenAliases.{WrittenAreListed, AboutIsListed};
-ghost use Rattle.infer_needs.specs.FitTerms.{FitsIn, AliasesFitIn, AliasFitsHere, GoalFitsIn, GoalsFitIn};
-ghost use Rattle.infer_needs.specs.Judged.{IsProvable, AreProvable, CanAllBeProved, CanPatsBeProved};
-ghost use Rattle.infer_needs.specs.Left.{WereRead, Lists};
-ghost use Rattle.infer_needs.specs.Written.{IsAsWritten, ListedAt, ListedHere, TypeIsListed, TypesAreListed, GoalIsListed, GoalsAreListed, ExprsAreListed, CanItemsBeProved, ItemsAreListed, AreAllListed, TypeFitsIn, TypesFitIn, ExprsFitIn, ItemsFitIn, AllFitIn};
+ghost use Rattle.infer_needs.specs.Words.{leaf, hole, answers, alias_at, ReadingIs, asked_goal, IsSystemOf, system, term_of, HasHeads, needs_of, pat_needs_of, HoldsPlaceholder, aliases_of, recorded, WrittenAreListed, AboutIsListed};
+ghost use Rattle.infer_needs.specs.Own.{FitsIn, AliasesFitIn, AliasFitsHere, GoalFitsIn, GoalsFitIn, IsProvable, AreProvable, CanAllBeProved, CanPatsBeProved, WereRead, Lists, IsAsWritten, ListedAt, ListedHere, TypeIsListed, TypesAreListed, GoalIsListed, GoalsAreListed, ExprsAreListed, CanItemsBeProved, ItemsAreListed, AreAllListed, TypeFitsIn, TypesFitIn, ExprsFitIn, ItemsFitIn, AllFitIn};
 
 use crate::found::Found;
 use crate::left::look_at_alias;
 use crate::unknown::holds_unknown;
-use goal_facts::{ItemSources, Proof, asked};
-use goal_search::{Holes, MOST_LEVELS};
-use goal_terms::{Role, Term, args_term, type_term};
-use hir_facts::{
+use hir_types::Head;
+use infer_goals::goal_facts::{ItemSources, Proof, asked};
+use infer_goals::goal_search::{Holes, MOST_LEVELS};
+use infer_goals::goal_terms::{Role, Term, args_term, type_term};
+use infer_goals::hir_facts::{
     DefWithBodyId, ExprOrPatId, Facts, Goal, RawBody, RawExpr, Ty, TypeAliasId, TypeRefId,
     fn_aliases, let_aliases, lower_ty,
 };
-use hir_types::Head;
 use infer_result::{InferenceResult, expr_id, needed_goals, pat_needs};
 use std::alloc::{AllocError, Global};
 
@@ -42,7 +28,7 @@ fn is_placeholder(head: Head) -> bool
 }
 
 /// Whether a `_` stands in a term.
-#[tactic(auto, using(goal_terms::specs::Terms::term_is))]
+#[tactic(auto, using(crate::specs::Words::term_is))]
 fn holds_placeholder(term: &Term) -> bool
     ensures { IsTrue result ↔ HoldsPlaceholder (term_of term.now) }
 {
@@ -124,7 +110,7 @@ fn look_at_pair(
 }
 
 /// The same of each associated type that is written in a term.
-#[tactic(auto, using(goal_terms::specs::Terms::term_is))]
+#[tactic(auto, using(crate::specs::Words::term_is))]
 fn look_at_term(
     alloc: Global,
     sources: &ItemSources<'_>,

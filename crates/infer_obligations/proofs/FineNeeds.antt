@@ -3,60 +3,19 @@ use Rattle.std.specs.Prelude.{◌≡◌, ◌≤◌, ◌+◌, ◌⊎◌, ℕ, suc
 use Rattle.std.specs.Option.{option_and_then}
 use Rattle.std.proofs.Common.{arith, inl, inr, sym, ap, ◌∙◌, subst}
 use Rattle.std.proofs.lemmas.List.{length-map}
-use Rattle.hir_types.specs.declared.ids.CallableDefId.{CallableDefId}
+use Rattle.infer_obligations.specs.Words.{CallableDefId, ExprId, FunctionId, VariantId, AdtId, GenericArg, Ty, Ty-F, out-Ty, out-roll-Ty, replaced_bool, replaced_char, replaced_int, replaced_uint, replaced_tuple, replaced_param, Assignment, folded, with_holes, term_var, term_int_var, RawAdt, RawCtor, RawExpr, RawFn, RawGoal, RawPath, RawType, RawVariant, RawFacts, fn_aliases, variant_aliases, Scope, adt_params, count_or_none, fn_arity, variant_arity, type_args, ctor_type_by, IsLawful, Shape, whole, IsMadeOf, Asked, Each, goal_at, preds_or_none, HasHeadsIfConcrete, Outermost, other, HasHead, outermost_step, of_function, of_ctor, PathRule, alias_goals_by, alias_goals_from, fn_alias_goals, variant_alias_goals, path_alias_goals, alias_goals, variant_preds, path_preds, expr_preds, item_args, needed_goals, Given, at_or_mismatch, HasTy, InferenceResult, is_fine_head, HasFineHeads, Every, Tells, IsVariant, TypeAliasId}
 use Rattle.hir_types.specs.declared.ids.CallableDefId.TheVariants as callable
-use Rattle.hir_types.specs.declared.ids.ExprId.{ExprId}
-use Rattle.hir_types.specs.declared.ids.FunctionId.{FunctionId}
-use Rattle.hir_types.specs.declared.ids.VariantId.{VariantId}
-use Rattle.hir_types.specs.declared.ids.AdtId.{AdtId}
 use Rattle.hir_types.specs.declared.head.Head.TheVariants as head
 use Rattle.hir_types.specs.declared.ty.IntegerTy.TheVariants as integer
-use Rattle.hir_types.specs.declared.ty.GenericArg.{GenericArg}
 use Rattle.hir_types.specs.declared.ty.GenericArg.TheVariants as arg
-use Rattle.hir_types.specs.declared.ty.Ty.{Ty, Ty-F, out-Ty, out-roll-Ty}
 use Rattle.hir_types.specs.declared.ty.Ty.TheVariants as ty
-use Rattle.hir_types.specs.Replacements.{replaced_bool, replaced_char, replaced_int, replaced_uint, replaced_tuple, replaced_param}
-use Rattle.hir_types.specs.Subst.{Assignment, folded, with_holes}
-use Rattle.hir_types.specs.TermLaws.{term_var, term_int_var}
-use Rattle.hir_raw.specs.declared.raw.RawAdt.{RawAdt}
-use Rattle.hir_raw.specs.declared.raw.RawCtor.{RawCtor}
-use Rattle.hir_raw.specs.declared.raw.RawCtor.TheVariants as ctor
-use Rattle.hir_raw.specs.declared.raw.RawExpr.{RawExpr}
-use Rattle.hir_raw.specs.declared.raw.RawExpr.TheVariants as expr
-use Rattle.hir_raw.specs.declared.raw.RawFn.{RawFn}
-use Rattle.hir_raw.specs.declared.raw.RawGoal.{RawGoal}
-use Rattle.hir_raw.specs.declared.raw.RawPath.{RawPath}
-use Rattle.hir_raw.specs.declared.raw.RawPath.TheVariants as path
-use Rattle.hir_raw.specs.declared.raw.RawType.{RawType}
-use Rattle.hir_raw.specs.declared.raw.RawType.TheVariants as type
-use Rattle.hir_raw.specs.declared.raw.RawVariant.{RawVariant}
-use Rattle.hir_raw.specs.declared.raw.RawFacts.{RawFacts}
-use Rattle.hir_raw.specs.Hidden.{fn_aliases, variant_aliases}
-use Rattle.hir_raw.specs.Scope.{Scope, adt_params, count_or_none, fn_arity, variant_arity}
-use Rattle.hir_raw.specs.Signatures.{type_args, ctor_type_by}
-use Rattle.hir_facts.specs.Lawful.{IsLawful}
-use Rattle.infer_table.specs.Preserved.{Shape, whole, IsMadeOf}
-use Rattle.goal_answers.specs.Goals.{Asked, Each}
-use Rattle.goal_facts.specs.Arguments.{goal_at}
-use Rattle.goal_facts.specs.Environment.{preds_or_none}
-use Rattle.goal_facts.proofs.Systems.{each_append}
-use Rattle.goal_select.specs.Steps.{HasHeadsIfConcrete}
-use Rattle.infer_result.specs.Heads.{Outermost, other, HasHead, outermost_step, of_function, of_ctor}
-use Rattle.infer_result.specs.Kinds.Path.{PathRule}
-use Rattle.infer_result.specs.AliasNeeds.{alias_goals_by, alias_goals_from, fn_alias_goals, variant_alias_goals, path_alias_goals, alias_goals}
-use Rattle.infer_result.specs.Needs.{variant_preds, path_preds, expr_preds, item_args, needed_goals}
-use Rattle.infer_result.specs.Places.{Given}
-use Rattle.infer_result.specs.Placing.{at_or_mismatch}
-use Rattle.infer_result.specs.Rules.{Rule}
-use Rattle.infer_result.specs.Table.{HasTy}
-use Rattle.infer_result.specs.declared.result.InferenceResult.{InferenceResult}
-use Rattle.infer_ctx.specs.Fine.{is_fine_head, HasFineHeads, Every}
-use Rattle.infer_ctx.specs.Tells.{Tells}
-use Rattle.infer_ctx.specs.Under.{IsVariant}
-use Rattle.infer_ctx.proofs.FineTypes.{heads_bool, heads_char, heads_integer, heads_param, heads_tuple, heads_adt, heads_fn_def, heads_associated}
-use Rattle.infer_ctx.proofs.OverTypes.{over_fine, adt_closed, fn_def_closed}
+use Rattle.infer_obligations.specs.Words.hir_raw.declared.raw.RawCtor.TheVariants as ctor
+use Rattle.infer_obligations.specs.Words.hir_raw.declared.raw.RawExpr.TheVariants as expr
+use Rattle.infer_obligations.specs.Words.hir_raw.declared.raw.RawPath.TheVariants as path
+use Rattle.infer_obligations.specs.Words.hir_raw.declared.raw.RawType.TheVariants as type
+use Rattle.infer_obligations.proofs.Words.{each_append, heads_bool, heads_char, heads_integer, heads_param, heads_tuple, heads_adt, heads_fn_def, heads_associated, over_fine, adt_closed, fn_def_closed}
+use Rattle.infer_obligations.specs.Words.infer_result.Rules.{Rule}
 use Rattle.infer_obligations.proofs.FineSources.{GoalIsFit, fit_more, goal_has_heads, fn_preds_fit, adt_preds_fit}
-use Rattle.hir_types.specs.declared.ids.TypeAliasId.{TypeAliasId}
 
 -- ---- what a type is, outermost
 

@@ -4,76 +4,18 @@ use Rattle.std.specs.List.{range_with_len}
 use Rattle.std.proofs.Common.{inl, inr, sym, ap, ◌∙◌, subst, arith, true≢false}
 use Rattle.std.proofs.lemmas.Bool.{ltb-true, lt-ltb, or_cases, or_left, or_right}
 use Rattle.std.proofs.lemmas.List.{length-map}
-use Rattle.hir_types.specs.declared.ids.DefWithBodyId.{DefWithBodyId}
+use Rattle.infer_obligations.specs.Words.{DefWithBodyId, FunctionId, GenericDefId, TraitId, TypeRefId, Hole, GenericArg, Ty, with_params, map_twice, param_at, types_args_replaced, replaced_bool, replaced_char, replaced_int, replaced_uint, replaced_var, replaced_int_var, replaced_tuple, replaced_adt, replaced_fn_def, replaced, Term, hole, leaf, pair, chain, apply, occurs, hole_number, type_part, term, term_var, term_int_var, RawAdt, RawAssocType, RawFn, RawGoal, RawImpl, RawTrait, RawTraitRef, RawType, RawBody, RawFacts, arg_types, Scope, adt_params, has_params, scope_of, count_or_none, types_scope, type_args, at_args, is_alias, type_parts, filled_within, written_type, AllHold, TraitRefExists, GoalExists, GoalsExist, TraitIdsExist, ImplIdsExist, HoldsProjection, is_one, IsNoProjection, TypeFits, GoalFits, AdtFits, TraitFits, ImplFits, ImplTraitFits, HasNoHole, params_in, wrongs_in, goal_uses, goals_uses, impl_uses, trait_ref_uses, fn_uses, variant_uses, abstract_uses, item_uses, body_of, IsLawful, adt_ids, fn_ids, fns_fit, holes_fit, In, in_first, in_last, in_flat, type_there, FitsUnder, fits_more, Shape, TermRole, whole, part, rest, IsMadeOf, width_apply, hole_eq_same, hole_eq_true, Kind, implements, projects, Asked, Rule, System, Each, key, Fill, IsNth, IsConcrete, IsTraitKind, holes, own_params, type_at, args_at, goal_at, preds_or_none, trait_preds, trait_holes, IsStated, IsSuper, impl_holes, impl_args, assoc_rule, rules_for, impl_rules, fact, IsSystemOf, HasHeadsIfConcrete, RuleHasHeadsOf, SystemHasHeadsOf, scope_item, is_fine_head, item_params, HasFineHeads, Every}
 use Rattle.hir_types.specs.declared.ids.DefWithBodyId.TheVariants as def
-use Rattle.hir_types.specs.declared.ids.FunctionId.{FunctionId}
-use Rattle.hir_types.specs.declared.ids.GenericDefId.{GenericDefId}
 use Rattle.hir_types.specs.declared.ids.GenericDefId.TheVariants as generic
-use Rattle.hir_types.specs.declared.ids.TraitId.{TraitId}
-use Rattle.hir_types.specs.declared.ids.TypeRefId.{TypeRefId}
 use Rattle.hir_types.specs.declared.head.Head.TheVariants as head
-use Rattle.hir_types.specs.declared.head.Hole.{Hole}
 use Rattle.hir_types.specs.declared.ty.IntegerTy.TheVariants as integer
-use Rattle.hir_types.specs.declared.ty.GenericArg.{GenericArg}
 use Rattle.hir_types.specs.declared.ty.GenericArg.TheVariants as arg
-use Rattle.hir_types.specs.declared.ty.Ty.{Ty}
 use Rattle.hir_types.specs.declared.ty.Ty.TheVariants as ty
-use Rattle.hir_types.specs.Assigned.{with_params}
-use Rattle.hir_types.specs.Folds.{map_twice}
-use Rattle.hir_types.specs.Instances.{param_at, types_args_replaced}
-use Rattle.hir_types.specs.Replacements.{replaced_bool, replaced_char, replaced_int, replaced_uint, replaced_var, replaced_int_var, replaced_tuple, replaced_adt, replaced_fn_def}
-use Rattle.hir_types.specs.Subst.{replaced}
-use Rattle.hir_types.specs.Terms.{Term, hole, leaf, pair, chain, apply, occurs, hole_number, type_part, term}
-use Rattle.hir_types.specs.TermLaws.{term_var, term_int_var}
-use Rattle.hir_raw.specs.declared.raw.RawAdt.{RawAdt}
-use Rattle.hir_raw.specs.declared.raw.RawAssocType.{RawAssocType}
-use Rattle.hir_raw.specs.declared.raw.RawFn.{RawFn}
-use Rattle.hir_raw.specs.declared.raw.RawGoal.{RawGoal}
-use Rattle.hir_raw.specs.declared.raw.RawGoal.TheVariants as goal
-use Rattle.hir_raw.specs.declared.raw.RawImpl.{RawImpl}
-use Rattle.hir_raw.specs.declared.raw.RawTrait.{RawTrait}
-use Rattle.hir_raw.specs.declared.raw.RawTraitRef.{RawTraitRef}
-use Rattle.hir_raw.specs.declared.raw.RawType.{RawType}
-use Rattle.hir_raw.specs.declared.raw.RawType.TheVariants as type
-use Rattle.hir_raw.specs.declared.raw.RawBody.{RawBody}
-use Rattle.hir_raw.specs.declared.raw.RawFacts.{RawFacts}
-use Rattle.hir_raw.specs.Goals.{arg_types}
-use Rattle.hir_raw.specs.Scope.{Scope, adt_params, has_params, scope_of, count_or_none, types_scope}
-use Rattle.hir_raw.specs.Signatures.{type_args, at_args}
-use Rattle.hir_raw.specs.Hidden.{is_alias}
-use Rattle.hir_raw.specs.WrittenTypes.{type_parts, filled_within, written_type}
-use Rattle.hir_facts.specs.Entries.{AllHold}
-use Rattle.hir_facts.specs.GoalIds.{TraitRefExists, GoalExists, GoalsExist, TraitIdsExist, ImplIdsExist}
-use Rattle.hir_facts.specs.Projections.{HoldsProjection, is_one, in_part, IsNoProjection}
-use Rattle.hir_facts.specs.Counts.{TypeFits, GoalFits, AdtFits, TraitFits, ImplFits, ImplTraitFits}
-use Rattle.hir_facts.specs.Standing.{HasNoHole, params_in, wrongs_in}
-use Rattle.hir_facts.specs.Uses.{goal_uses, goals_uses, impl_uses, trait_ref_uses, fn_uses, variant_uses, abstract_uses, item_uses}
-use Rattle.hir_facts.specs.Bodies.{body_of}
-use Rattle.hir_facts.specs.Lawful.{IsLawful}
-use Rattle.hir_facts.specs.LawfulFacts.{adt_ids, fn_ids, fns_fit, holes_fit}
-use Rattle.hir_facts.specs.NoHoles.{In, in_first, in_last, in_flat, type_there}
-use Rattle.hir_facts.specs.WrittenFits.{FitsUnder, fits_more}
-use Rattle.infer_table.specs.Preserved.{Shape, TermRole, whole, part, rest, IsMadeOf, width_apply}
-use Rattle.infer_table.specs.TermLemmas.{hole_eq_same, hole_eq_true}
-use Rattle.goal_answers.specs.Goals.{Kind, implements, projects, Asked, Rule, System, Each, key}
-use Rattle.goal_answers.specs.Reading.{Fill}
-use Rattle.goal_answers.specs.Rows.{IsNth}
-use Rattle.goal_answers.specs.Selecting.{IsConcrete, IsTraitKind}
-use Rattle.goal_facts.specs.Arguments.{holes, own_params, type_at, args_at, goal_at}
-use Rattle.goal_facts.specs.Environment.{preds_or_none, trait_preds, trait_holes, IsStated, IsSuper, Follows}
-use Rattle.goal_facts.specs.Impls.{impl_holes, impl_args, assoc_rule, rules_for, impl_rules}
-use Rattle.goal_facts.specs.Systems.{fact, IsSystemOf}
-use Rattle.goal_facts.proofs.Systems.{each_append, each_get}
-use Rattle.goal_facts.proofs.ListedBounds.{listed_not_concrete}
-use Rattle.goal_facts.proofs.Written.{parts_by, layer, layer_is, args_are}
-use Rattle.goal_select.specs.Steps.{HasHeadsIfConcrete, RuleHasHeadsOf, SystemHasHeadsOf}
-use Rattle.goal_select.proofs.Heads.{concrete_within}
-use Rattle.infer_result.specs.Needs.{scope_item}
-use Rattle.infer_ctx.specs.Fine.{is_fine_head, item_params, HasFineHeads, Every}
-use Rattle.infer_ctx.proofs.FineTypes.{every_at, heads_bool, heads_char, heads_integer, heads_param, heads_tuple, heads_adt, heads_fn_def}
-use Rattle.infer_ctx.proofs.Lists.{found}
-use Rattle.infer_ctx.proofs.OverTypes.{over_fine}
-use Rattle.infer_ctx.proofs.Written.{written_heads}
+use Rattle.infer_obligations.specs.Words.hir_raw.declared.raw.RawGoal.TheVariants as goal
+use Rattle.infer_obligations.specs.Words.hir_raw.declared.raw.RawType.TheVariants as type
+use Rattle.infer_obligations.specs.Words.hir_facts.Projections.{in_part}
+use Rattle.infer_obligations.specs.Words.goal_facts.Environment.{Follows}
+use Rattle.infer_obligations.proofs.Words.{each_append, each_get, listed_not_concrete, parts_by, layer, layer_is, args_are, concrete_within, every_at, heads_bool, heads_char, heads_integer, heads_param, heads_tuple, heads_adt, heads_fn_def, found, over_fine, written_heads}
 
 -- ---- lists
 

@@ -1,19 +1,10 @@
 -- Whether a type is one that can be written, over holes that were made.
 use Rattle.std.specs.Prelude.{◌≡◌, ◌↔◌, Bool, true, false, Result, Ok, Err, IsTrue, IfOk, refl}
 use Rattle.std.proofs.Common.{ℕ, true≢false, sym, ap, ◌∙◌}
-use Rattle.hir_types.specs.declared.ty.Ty.{Ty}
-use Rattle.hir_types.specs.declared.head.Head.{Head}
+use Rattle.infer_obligations.specs.Words.{Ty, Head, Term, hole, leaf, pair, term, DefWithBodyId, RawFacts, Scope, params_of, scope_of, has_associated, HasMadeIf, Shape, TermRole, whole, part, rest, width, IsMadeOf, State, is_fine_head, IsFine, is_read_head, IsInHand}
 use Rattle.hir_types.specs.declared.head.Head.TheVariants as head
-use Rattle.hir_types.specs.Terms.{Term, hole, leaf, pair, term}
-use Rattle.hir_types.specs.declared.ids.DefWithBodyId.{DefWithBodyId}
-use Rattle.hir_raw.specs.declared.raw.RawFacts.{RawFacts}
-use Rattle.hir_raw.specs.Scope.{Scope, params_of, scope_of, has_associated}
-use Rattle.infer_table.specs.MadeTest.{HasMadeIf}
-use Rattle.infer_table.specs.Preserved.{Shape, TermRole, whole, part, rest, width, IsHead, IsMadeOf}
-use Rattle.infer_table.specs.Table.{State}
-use Rattle.infer_ctx.specs.Fine.{is_fine_head, IsFine}
-use Rattle.infer_result.specs.OwnTypes.{is_read_head, IsInHand}
-use Rattle.infer_obligations.specs.Reading.{body_scope}
+use Rattle.infer_obligations.specs.Words.infer_table.Preserved.{IsHead}
+use Rattle.infer_obligations.specs.Own.{body_scope}
 
 pub scope_is : (d : DefWithBodyId) (facts raw : RawFacts) (n : ℕ) (b : Bool) → raw ≡ facts → n ≡ params_of raw d → b ≡ has_associated raw d → body_scope raw n b ≡ scope_of facts d
 scope_is d facts raw n b same count may = ap (λ m. body_scope raw m b) count ∙ (ap (body_scope raw (params_of raw d)) may ∙ ap (λ x. scope_of x d) same)

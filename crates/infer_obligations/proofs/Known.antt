@@ -2,21 +2,7 @@
 use Rattle.std.specs.Prelude.{◌≡◌, ◌<◌, ◌+◌, ℕ, List, [], ◌∷◌, ◌++◌, get_or, take, length, Option, Some, None}
 use Rattle.std.proofs.Common.{sym, ap, subst, ◌∙◌}
 use Rattle.std.proofs.lemmas.List.{take_more}
-use Rattle.hir_types.specs.declared.ids.DefWithBodyId.{DefWithBodyId}
-use Rattle.hir_types.specs.declared.ids.TypeRefId.{TypeRefId}
-use Rattle.hir_types.specs.declared.ty.Ty.{Ty}
-use Rattle.hir_types.specs.Replacements.{folded_itself}
-use Rattle.hir_raw.specs.declared.raw.RawFacts.{RawFacts}
-use Rattle.hir_raw.specs.declared.raw.RawType.{RawType}
-use Rattle.hir_raw.specs.Scope.{Scope, scope_of}
-use Rattle.hir_raw.specs.WrittenTypes.{written_type}
-use Rattle.hir_facts.specs.Bodies.{inputs_of, return_type}
-use Rattle.infer_table.specs.Table.{State, new_state, resolved_type}
-use Rattle.goal_answers.specs.Goals.{System}
-use Rattle.goal_facts.specs.Reading.{TypeReads, IsTypeRead}
-use Rattle.goal_facts.specs.Systems.{IsSystemOf}
-use Rattle.infer_result.specs.Needs.{scope_item}
-use Rattle.infer_result.specs.OwnTypes.{IsInHand, IsKnownAs, EachIsKnownAs, AreOwnTypes, aliases_of, written_inputs}
+use Rattle.infer_obligations.specs.Words.{DefWithBodyId, TypeRefId, Ty, folded_itself, RawFacts, RawType, Scope, scope_of, written_type, inputs_of, return_type, State, new_state, resolved_type, System, TypeReads, IsTypeRead, IsSystemOf, scope_item, IsInHand, IsKnownAs, EachIsKnownAs, AreOwnTypes, aliases_of, written_inputs}
 
 -- ---- one type
 

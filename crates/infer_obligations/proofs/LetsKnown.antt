@@ -2,24 +2,10 @@
 use Rattle.std.specs.Prelude.{◌≡◌, ◌<◌, ◌+◌, ◌⊎◌, ℕ, zero, suc, List, [], ◌∷◌, length, slice_get, Option, Some, None}
 use Rattle.std.specs.Option.{option_and_then}
 use Rattle.std.proofs.Common.{refl, sym, ap, subst, ◌∙◌, inl, inr, arith}
-use Rattle.hir_types.specs.declared.ids.DefWithBodyId.{DefWithBodyId}
-use Rattle.hir_types.specs.declared.ty.Ty.{Ty}
-use Rattle.hir_types.specs.Terms.{term}
-use Rattle.hir_raw.specs.declared.raw.RawBody.{RawBody}
-use Rattle.hir_raw.specs.declared.raw.RawFacts.{RawFacts}
-use Rattle.hir_raw.specs.declared.raw.RawType.{RawType}
-use Rattle.hir_raw.specs.Lets.{let_aliases}
-use Rattle.hir_raw.specs.Scope.{Scope, scope_of}
-use Rattle.hir_raw.specs.WrittenTypes.{lowered}
-use Rattle.goal_answers.specs.Goals.{System}
-use Rattle.goal_facts.specs.Systems.{IsSystemOf}
-use Rattle.goal_search.proofs.Only.{within}
-use Rattle.infer_result.specs.Needs.{scope_item}
-use Rattle.infer_result.specs.OwnTypes.{CanStand, IsKnownAs, HoldsPlaceholder, IsAliasKnownAs, AreLetTypes}
-use Rattle.infer_result.specs.Table.{recorded}
-use Rattle.infer_ctx.specs.Found.{put}
-use Rattle.infer_ctx.proofs.Lists.{put-here}
-use Rattle.infer_obligations.specs.LetTypes.{AreNoted, NotesAlias}
+use Rattle.infer_obligations.specs.Words.{DefWithBodyId, Ty, term, RawBody, RawFacts, RawType, let_aliases, Scope, scope_of, lowered, System, IsSystemOf, scope_item, CanStand, IsKnownAs, HoldsPlaceholder, IsAliasKnownAs, AreLetTypes, recorded, put}
+use Rattle.infer_obligations.proofs.Words.goal_search.Only.{within}
+use Rattle.infer_obligations.proofs.Words.{put-here}
+use Rattle.infer_obligations.specs.Own.{AreNoted, NotesAlias}
 
 -- ---- a list that grows where something is noted
 

@@ -8,4 +8,4 @@ pub mod InHand
 pub mod Known
 pub mod LetsKnown
 pub mod ReadNeeds
-pub mod Below
+pub mod Words

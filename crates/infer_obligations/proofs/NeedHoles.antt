@@ -1,45 +1,15 @@
 -- What paths need at a type has no holes but those of the type.
 use Rattle.std.specs.Prelude.{◌≡◌, ℕ, zero, suc, List, [], ◌∷◌, map, length, slice_get, Option, Some, None}
 use Rattle.std.proofs.Common.{sym, ap, ◌∙◌, subst}
-use Rattle.hir_types.specs.declared.head.HoleKind.{HoleKind}
-use Rattle.hir_types.specs.declared.ids.TypeRefId.{TypeRefId}
-use Rattle.hir_types.specs.declared.goal.Goal.{Goal}
+use Rattle.infer_obligations.specs.Words.{HoleKind, TypeRefId, Goal, AliasBound, GenericArg, GenericArg-F, out-GenericArg, roll-out-GenericArg, TraitRef, Ty, Ty-F, out-Ty, roll-out-Ty, arg_as_type, with_params, in_arg, in_ty, Term, leaf, pair, node, chain, type_part, arg_step, ty_step, term, arg_term, Head, terms, term_at, arg_term_at, term_error, RawExpr, RawGoal, RawType, RawFacts, RawFn, RawPath, RawVariant, fn_aliases, variant_aliases, adt_params, count_or_none, arg_types, are_of_leaf, are_of_pair, are_of_parts, AreOf, State, HolesAreOf, Asked, Each, type_at, args_at, goal_at, asked_goal, GoalIsOf, alias_goals_by, alias_goals_from, fn_alias_goals, variant_alias_goals, path_alias_goals, alias_goals, expr_preds, item_args, needed_goals}
 use Rattle.hir_types.specs.declared.ty.IntegerTy.TheVariants.{Int, Uint}
-use Rattle.hir_types.specs.declared.ty.AliasBound.{AliasBound}
-use Rattle.hir_types.specs.declared.ty.GenericArg.{GenericArg, GenericArg-F, out-GenericArg, roll-out-GenericArg}
-use Rattle.hir_types.specs.declared.ty.TraitRef.{TraitRef}
-use Rattle.hir_types.specs.declared.ty.Ty.{Ty, Ty-F, out-Ty, roll-out-Ty}
-use Rattle.hir_types.specs.Assigned.{arg_as_type, type_of, with_params}
-use Rattle.hir_types.specs.Folds.{in_arg, in_ty}
-use Rattle.hir_types.specs.Terms.{Term, leaf, pair, node, chain, type_part, arg_step, ty_step, term, arg_term}
-use Rattle.hir_types.specs.declared.head.Head.{Head}
+use Rattle.hir_types.specs.Assigned.{type_of}
 use Rattle.hir_types.specs.declared.head.Head.TheVariants as head
-use Rattle.hir_types.specs.TermLaws.{terms, term_at, arg_term_at, term_error}
-use Rattle.hir_raw.specs.declared.raw.RawExpr.{RawExpr}
-use Rattle.hir_raw.specs.declared.raw.RawGoal.{RawGoal}
-use Rattle.hir_raw.specs.declared.raw.RawGoal.TheVariants as goal
-use Rattle.hir_raw.specs.declared.raw.RawType.{RawType}
-use Rattle.hir_raw.specs.declared.raw.RawType.TheVariants as type
-use Rattle.hir_raw.specs.declared.raw.RawFacts.{RawFacts}
-use Rattle.hir_raw.specs.declared.raw.RawExpr.TheVariants as expr
-use Rattle.hir_raw.specs.declared.raw.RawFn.{RawFn}
-use Rattle.hir_raw.specs.declared.raw.RawPath.{RawPath}
-use Rattle.hir_raw.specs.declared.raw.RawPath.TheVariants as path
-use Rattle.hir_raw.specs.declared.raw.RawVariant.{RawVariant}
-use Rattle.hir_raw.specs.Hidden.{fn_aliases, variant_aliases}
-use Rattle.hir_raw.specs.Scope.{adt_params, count_or_none}
-use Rattle.hir_raw.specs.Goals.{arg_types}
-use Rattle.infer_table.specs.LogLemmas.{are_of_leaf, are_of_pair, are_of_parts}
-use Rattle.infer_table.specs.Solutions.{AreOf}
-use Rattle.infer_table.specs.Table.{State, HolesAreOf}
-use Rattle.goal_answers.specs.Goals.{Asked, Each}
-use Rattle.goal_facts.specs.Arguments.{type_at, args_at, goal_at}
-use Rattle.goal_facts.specs.Goals.{asked_goal}
-use Rattle.goal_facts.proofs.Systems.{each_append}
-use Rattle.goal_facts.proofs.Written.{parts_by, layer, by_layers, args_are}
-use Rattle.goal_select.specs.Steps.{GoalIsOf}
-use Rattle.infer_result.specs.AliasNeeds.{alias_goals_by, alias_goals_from, fn_alias_goals, variant_alias_goals, path_alias_goals, alias_goals}
-use Rattle.infer_result.specs.Needs.{expr_preds, item_args, needed_goals}
+use Rattle.infer_obligations.specs.Words.hir_raw.declared.raw.RawGoal.TheVariants as goal
+use Rattle.infer_obligations.specs.Words.hir_raw.declared.raw.RawType.TheVariants as type
+use Rattle.infer_obligations.specs.Words.hir_raw.declared.raw.RawExpr.TheVariants as expr
+use Rattle.infer_obligations.specs.Words.hir_raw.declared.raw.RawPath.TheVariants as path
+use Rattle.infer_obligations.proofs.Words.{each_append, parts_by, layer, by_layers, args_are}
 
 module _ (kinds : List HoleKind) where
   abbrev Made : Term → Type 0

@@ -1,29 +1,11 @@
 -- What was read of the associated types that goals are about, one after another.
 use Rattle.std.specs.Prelude.{◌≡◌, ◌<◌, ◌≤◌, ◌+◌, ℕ, suc, List, [], length, slice_get, Option, Some, None}
 use Rattle.std.proofs.Common.{refl, sym, ap, subst, inl, inr, ◌∙◌, arith}
-use Rattle.hir_types.specs.declared.goal.Goal.{Goal}
+use Rattle.infer_obligations.specs.Words.{Goal, TypeAliasId, GenericArg, TraitRef, Ty, RawExpr, bindings, resolved_type, IsTypeRead, IsSystemOf, system, IsOfBody, needed_goals, needs_of, needs_at, Given, recorded, InferenceContext, IsSound, OnlyBinds, Settles}
 use Rattle.hir_types.specs.declared.goal.Goal.TheVariants as goal
-use Rattle.hir_types.specs.declared.ids.TypeAliasId.{TypeAliasId}
-use Rattle.hir_types.specs.declared.ty.GenericArg.{GenericArg}
-use Rattle.hir_types.specs.declared.ty.TraitRef.{TraitRef}
-use Rattle.hir_types.specs.declared.ty.Ty.{Ty}
 use Rattle.hir_types.specs.declared.ty.Ty.TheVariants as ty
-use Rattle.hir_raw.specs.declared.raw.RawExpr.{RawExpr}
-use Rattle.infer_table.specs.Table.{bindings, resolved_type}
-use Rattle.goal_facts.specs.Reading.{IsTypeRead}
-use Rattle.goal_facts.specs.Systems.{IsSystemOf}
-use Rattle.goal_search.specs.Sources.{system}
-use Rattle.infer_result.specs.Closed.{IsOfBody}
-use Rattle.infer_result.specs.Needs.{needed_goals, needs_of, needs_at}
-use Rattle.infer_result.specs.Places.{Given}
-use Rattle.infer_result.specs.Table.{recorded}
-use Rattle.infer_ctx.specs.declared.context.InferenceContext.{InferenceContext}
-use Rattle.infer_ctx.specs.Closings.{IsSound}
-use Rattle.infer_ctx.specs.Steps.{OnlyBinds}
-use Rattle.infer_coerce.specs.MadeEqual.{Settles}
-use Rattle.infer_coerce.proofs.Unified.{binds_nothing, binds_twice}
-use Rattle.infer_obligations.specs.Reading.{UnifiesInHand, ReadsAlias, ReadsGoal, ReadsFirst, ReadsEach, ReadsFor, SelectsAndReads, ReadsPath, ReadsPaths, ReadsPat, ReadsPats, ReadsAll, ReadsTimes, ReadsOn, SettlesNeeds}
-use Rattle.infer_obligations.specs.Selection.{SelectsInWalk}
+use Rattle.infer_obligations.proofs.Words.{binds_nothing, binds_twice}
+use Rattle.infer_obligations.specs.Own.{UnifiesInHand, ReadsAlias, ReadsGoal, ReadsFirst, ReadsEach, ReadsFor, SelectsAndReads, ReadsPath, ReadsPaths, ReadsPat, ReadsPats, ReadsAll, ReadsTimes, ReadsOn, SettlesNeeds, SelectsInWalk}
 
 -- ---- one associated type
 

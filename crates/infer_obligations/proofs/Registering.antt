@@ -5,36 +5,12 @@ use Rattle.std.proofs.Common.{inl, inr, sym, ap, ◌∙◌, subst, append_assoc,
 use Rattle.std.proofs.lemmas.Grind.{flat_map-append}
 use Rattle.std.proofs.lemmas.Option.{same_Some, slice_get_within}
 use Rattle.std.proofs.lemmas.List.{map-append}
-use Rattle.hir_types.specs.declared.ids.ExprId.{ExprId}
-use Rattle.hir_types.specs.declared.ids.ExprOrPatId.{ExprOrPatId}
+use Rattle.infer_obligations.specs.Words.{ExprId, ExprOrPatId, Goal, Ty, RawExpr, RawFacts, Shape, Asked, Each, asked_goal, ItemSources, system, HasHeadsIfConcrete, Obligation, IsAsked, registered, opens, Obligations, GoalTable, AreKept, HasAllOpen, sourced, AreCounted, needed_goals, needs_of, needs_at, Given, recorded, asked_where, asked_by_node, AllAreAsked, AreSourcesIn, AreGoalsOf, IsTold, with_expr_ty, with_goal_table, is_fine_head, IsFree, InferenceContext}
 use Rattle.hir_types.specs.declared.ids.ExprOrPatId.TheVariants as node
-use Rattle.hir_types.specs.declared.goal.Goal.{Goal}
-use Rattle.hir_types.specs.declared.ty.Ty.{Ty}
-use Rattle.hir_raw.specs.declared.raw.RawExpr.{RawExpr}
-use Rattle.hir_raw.specs.declared.raw.RawFacts.{RawFacts}
-use Rattle.infer_table.specs.Preserved.{Shape}
-use Rattle.goal_answers.specs.Goals.{Asked, Each}
-use Rattle.goal_facts.specs.Goals.{asked_goal, ItemSources}
-use Rattle.goal_search.specs.Sources.{system}
-use Rattle.goal_select.specs.Steps.{HasHeadsIfConcrete}
-use Rattle.goal_tree.specs.declared.obligation.Obligation.{Obligation}
-use Rattle.goal_tree.specs.declared.obligation.Standing.TheVariants as standing
-use Rattle.goal_tree.specs.Trees.{IsAsked, registered, opens}
-use Rattle.infer_goals.specs.declared.obligations.Obligations.{Obligations}
-use Rattle.infer_goals.specs.declared.table.GoalTable.{GoalTable}
-use Rattle.infer_goals.specs.Obligations.{AreKept, HasAllOpen, sourced, AreCounted}
-use Rattle.infer_goals.proofs.Counting.{asked_counted}
-use Rattle.infer_goals.proofs.Lists.{append_get}
-use Rattle.infer_result.specs.Needs.{needed_goals, needs_of, needs_at}
-use Rattle.infer_result.specs.Places.{Given}
-use Rattle.infer_result.specs.Table.{recorded}
-use Rattle.infer_ctx.specs.Asked.{asked_where, asked_by_node, asked_at, AllAreAsked, AreSourcesIn, AreGoalsOf, IsTold}
-use Rattle.infer_ctx.specs.Context.{with_expr_ty, with_goal_table}
-use Rattle.infer_ctx.specs.Fine.{is_fine_head}
-use Rattle.infer_ctx.specs.Walks.{IsFree}
-use Rattle.infer_ctx.proofs.Lists.{slice_get-set_same, slice_get-set_other}
-use Rattle.infer_ctx.specs.declared.context.InferenceContext.{InferenceContext}
-use Rattle.infer_obligations.specs.Registering.{asked_for, node_asks, IsRegistered, Registers}
+use Rattle.infer_obligations.specs.Words.goal_tree.declared.obligation.Standing.TheVariants as standing
+use Rattle.infer_obligations.proofs.Words.{asked_counted, append_get, slice_get-set_same, slice_get-set_other}
+use Rattle.infer_obligations.specs.Words.infer_ctx.Asked.{asked_at}
+use Rattle.infer_obligations.specs.Own.{asked_for, node_asks, IsRegistered, Registers}
 
 -- ---- trees that are asked more
 

@@ -3,30 +3,13 @@
 use Rattle.std.specs.Prelude.{◌≡◌, ◌-◌, ◌++◌, ℕ, Bool, true, false, List, [], ◌∷◌, flat_map, map, slice_get, Some, IsTrue, refl}
 use Rattle.std.proofs.Common.{inl, inr, sym, ap, ◌∙◌, subst, append-nil}
 use Rattle.std.proofs.lemmas.Grind.{flat_map-append}
-use Rattle.hir_types.specs.declared.ids.ExprOrPatId.{ExprOrPatId}
-use Rattle.hir_types.specs.declared.goal.Goal.{Goal}
+use Rattle.infer_obligations.specs.Words.{ExprOrPatId, Goal, RawFacts, Shape, NoAlias, BindsOnly, State, bindings, Grew, System, asked_goal, HasHeadsIfConcrete, SystemHasHeadsOf, Obligation, GoalTree, asked_by, Obligations, IsStep, AreSteps, Went, asked_by_node, TreeHasHeadsOf}
 use Rattle.hir_types.specs.declared.head.Head.TheVariants as head
 use Rattle.hir_types.specs.declared.ty.IntTy.TheVariants as int
-use Rattle.hir_raw.specs.declared.raw.RawFacts.{RawFacts}
-use Rattle.infer_table.specs.Preserved.{Shape, NoAlias, BindsOnly}
-use Rattle.infer_table.specs.Solutions.{log_of}
-use Rattle.infer_table.specs.Table.{State, bindings, Grew}
-use Rattle.infer_table.proofs.FallingBack.{binds_only_fallen}
-use Rattle.infer_table.proofs.HoleLaws.{grew_twice}
-use Rattle.goal_answers.specs.Goals.{System}
-use Rattle.goal_facts.specs.Goals.{asked_goal}
-use Rattle.goal_facts.proofs.Systems.{each_get}
-use Rattle.goal_select.specs.Steps.{HasHeadsIfConcrete, SystemHasHeadsOf}
-use Rattle.goal_tree.specs.declared.obligation.Obligation.{Obligation}
-use Rattle.goal_tree.specs.declared.tree.GoalTree.{GoalTree}
-use Rattle.goal_tree.specs.Trees.{asked_by}
-use Rattle.goal_tree.proofs.Standings.{mapped_get}
-use Rattle.infer_goals.specs.declared.obligations.Obligations.{Obligations}
-use Rattle.infer_goals.specs.Obligations.{IsStep, AreSteps, Went}
-use Rattle.infer_goals.proofs.Lists.{append_get}
-use Rattle.infer_goals.proofs.Steps.{went_grew}
-use Rattle.infer_ctx.specs.Asked.{asked_by_node, asked_at, TreeHasHeadsOf}
-use Rattle.infer_obligations.specs.Selection.{AreSelected}
+use Rattle.infer_obligations.specs.Words.infer_table.Solutions.{log_of}
+use Rattle.infer_obligations.proofs.Words.{binds_only_fallen, grew_twice, each_get, mapped_get, append_get, went_grew}
+use Rattle.infer_obligations.specs.Words.infer_ctx.Asked.{asked_at}
+use Rattle.infer_obligations.specs.Own.{AreSelected}
 
 -- ---- what stays of a table
 

@@ -1,29 +1,9 @@
 -- What is found out about a body holds where goals are selected: more is known of its holes then.
 use Rattle.std.proofs.Common.{◌≡◌, ◌∙◌, refl, sym, subst, arith, Bool}
-use Rattle.hir_types.specs.Terms.{terms_of}
-use Rattle.infer_table.specs.Completion.{completion}
-use Rattle.infer_table.specs.Preserved.{BindsOnly}
-use Rattle.infer_table.specs.Solutions.{Respects, log_of}
-use Rattle.infer_table.specs.Table.{Grew, Meets, bindings}
-use Rattle.infer_table.specs.Waiting.{waiting}
-use Rattle.goal_facts.specs.Goals.{ItemSources}
-use Rattle.goal_facts.specs.Systems.{IsSystemOf}
-use Rattle.goal_search.specs.Sources.{system}
-use Rattle.infer_goals.specs.declared.table.GoalTable.{GoalTable}
-use Rattle.infer_goals.specs.Obligations.{AreKept, HasAllOpen, Went, NoneLeft, AreCounted}
-use Rattle.infer_goals.proofs.Counting.{went_counted}
-use Rattle.infer_result.specs.Closed.{IsOfBody}
-use Rattle.infer_result.specs.Places.{Given}
-use Rattle.infer_ctx.specs.Asked.{AreSourcesIn, AreGoalsOf, IsTold}
-use Rattle.infer_ctx.specs.Closings.{IsSound}
-use Rattle.infer_ctx.specs.Context.{with_goal_table}
-use Rattle.infer_ctx.specs.Fine.{is_fine_head, AreFinePairs}
-use Rattle.infer_ctx.specs.declared.context.InferenceContext.{InferenceContext}
-use Rattle.infer_ctx.proofs.FineTypes.{fine_no_alias, table_fine_grown, seen_fine_grown, fine_pairs_grown, fine_asked_grown}
-use Rattle.infer_ctx.proofs.UnderClosings.{kept_later}
-use Rattle.infer_coerce.specs.MadeEqual.{UnifiesKnown}
-use Rattle.infer_coerce.proofs.Unified.{completion_closing, binds_twice}
-use Rattle.infer_obligations.specs.Selection.{SelectsAlone, SelectsInWalk}
+use Rattle.infer_obligations.specs.Words.{terms_of, completion, BindsOnly, Respects, Grew, Meets, bindings, waiting, ItemSources, IsSystemOf, system, GoalTable, AreKept, HasAllOpen, Went, NoneLeft, AreCounted, IsOfBody, Given, AreSourcesIn, AreGoalsOf, IsTold, IsSound, with_goal_table, is_fine_head, AreFinePairs, InferenceContext, UnifiesKnown}
+use Rattle.infer_obligations.specs.Words.infer_table.Solutions.{log_of}
+use Rattle.infer_obligations.proofs.Words.{went_counted, fine_no_alias, table_fine_grown, seen_fine_grown, fine_pairs_grown, fine_asked_grown, kept_later, completion_closing, binds_twice}
+use Rattle.infer_obligations.specs.Own.{SelectsAlone, SelectsInWalk}
 use Rattle.infer_obligations.proofs.Selecting.{StaysApart, HaveHeads, went_apart, went_asked, went_heads}
 
 -- ---- with a table of goals that knows more

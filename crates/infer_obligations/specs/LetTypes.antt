@@ -1,12 +1,6 @@
 -- What is noted of the associated types that the `let`s of a body are written with.
 use Rattle.std.specs.Prelude.{◌≡◌, ℕ, List, Option, Some}
-use Rattle.hir_types.specs.declared.ty.Ty.{Ty}
-use Rattle.hir_raw.specs.declared.raw.RawType.{RawType}
-use Rattle.hir_raw.specs.Scope.{Scope}
-use Rattle.hir_raw.specs.WrittenTypes.{lowered}
-use Rattle.goal_answers.specs.Goals.{System}
-use Rattle.infer_result.specs.OwnTypes.{IsAliasKnownAs}
-use Rattle.infer_result.specs.Table.{recorded}
+use Rattle.infer_obligations.specs.Words.{Ty, RawType, Scope, lowered, System, IsAliasKnownAs, recorded}
 
 -- each type that is noted is what the body knows of the type of its number
 abbrev pub AreNoted : Scope → System → ℕ → List RawType → List (Option Ty) → Type 0

@@ -1,25 +1,9 @@
 -- What an associated type that a goal is about reads as, made equal with the goal's type.
 use Rattle.std.specs.Prelude.{◌≡◌, ◌⊎◌, ℕ, zero, suc, List, length, map, slice_get, Option, Some, Bool}
-use Rattle.hir_types.specs.declared.goal.Goal.{Goal}
+use Rattle.infer_obligations.specs.Words.{Goal, TypeAliasId, GenericArg, Scope, Ty, bindings, resolved_type, asked_goal, IsTypeRead, IsSystemOf, system, needs_at, pat_needs_at, IsInHand, Given, InferenceContext, OnlyBinds, SameOrDiffer, Settles, RawFacts}
 use Rattle.hir_types.specs.declared.goal.Goal.TheVariants as goal
-use Rattle.hir_types.specs.declared.ids.TypeAliasId.{TypeAliasId}
-use Rattle.hir_types.specs.declared.ty.GenericArg.{GenericArg}
-use Rattle.hir_raw.specs.Scope.{Scope}
-use Rattle.hir_types.specs.declared.ty.Ty.{Ty}
 use Rattle.hir_types.specs.declared.ty.Ty.TheVariants as ty
-use Rattle.infer_table.specs.Table.{bindings, resolved_type}
-use Rattle.goal_facts.specs.Goals.{asked_goal}
-use Rattle.goal_facts.specs.Reading.{IsTypeRead}
-use Rattle.goal_facts.specs.Systems.{IsSystemOf}
-use Rattle.goal_search.specs.Sources.{system}
-use Rattle.infer_result.specs.Needs.{needs_at, pat_needs_at}
-use Rattle.infer_result.specs.OwnTypes.{IsInHand}
-use Rattle.infer_result.specs.Places.{Given}
-use Rattle.infer_ctx.specs.declared.context.InferenceContext.{InferenceContext}
-use Rattle.infer_ctx.specs.Steps.{OnlyBinds}
-use Rattle.infer_coerce.specs.MadeEqual.{SameOrDiffer, Settles}
 use Rattle.infer_obligations.specs.Selection.{SelectsInWalk}
-use Rattle.hir_raw.specs.declared.raw.RawFacts.{RawFacts}
 
 -- the scope of a body, from its parts
 abbrev pub body_scope : RawFacts → ℕ → Bool → Scope

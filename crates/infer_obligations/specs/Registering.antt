@@ -1,13 +1,7 @@
 -- Obligations that nodes' goals are added to.
 use Rattle.std.specs.Prelude.{◌≡◌, ℕ, List, map, slice_get, Some, None}
-use Rattle.hir_types.specs.declared.ids.ExprOrPatId.{ExprOrPatId}
+use Rattle.infer_obligations.specs.Words.{ExprOrPatId, RawFacts, Asked, asked_goal, Obligation, IsAsked, Obligations}
 use Rattle.hir_types.specs.declared.ids.ExprOrPatId.TheVariants as node
-use Rattle.hir_raw.specs.declared.raw.RawFacts.{RawFacts}
-use Rattle.goal_answers.specs.Goals.{Asked}
-use Rattle.goal_facts.specs.Goals.{asked_goal}
-use Rattle.goal_tree.specs.declared.obligation.Obligation.{Obligation}
-use Rattle.goal_tree.specs.Trees.{IsAsked}
-use Rattle.infer_goals.specs.declared.obligations.Obligations.{Obligations}
 
 -- that the expression of this number needs these
 abbrev pub asked_for : ℕ → List Asked → List (ExprOrPatId × Asked)

@@ -1,21 +1,6 @@
 -- What selection does to what is found out about a body.
 use Rattle.std.specs.Prelude.{◌≤◌, true, false}
-use Rattle.hir_types.specs.declared.ids.DefWithBodyId.{DefWithBodyId}
-use Rattle.hir_raw.specs.declared.raw.RawBody.{RawBody}
-use Rattle.hir_raw.specs.declared.raw.RawFacts.{RawFacts}
-use Rattle.infer_table.specs.FallBack.{FellBack}
-use Rattle.infer_table.specs.Table.{State}
-use Rattle.goal_answers.specs.Goals.{System}
-use Rattle.goal_facts.specs.Systems.{IsSystemOf}
-use Rattle.goal_search.specs.Sources.{system}
-use Rattle.infer_goals.specs.declared.obligations.Obligations.{Obligations}
-use Rattle.infer_goals.specs.Obligations.{AreKept, Went, NoneLeft, AreCounted}
-use Rattle.infer_result.specs.Needs.{scope_item}
-use Rattle.infer_result.specs.Places.{Given}
-use Rattle.infer_ctx.specs.declared.context.InferenceContext.{InferenceContext}
-use Rattle.infer_ctx.specs.Asked.{AllAreAsked}
-use Rattle.infer_ctx.specs.Steps.{OnlyBinds}
-use Rattle.infer_coerce.specs.MadeEqual.{UnifiesKnown}
+use Rattle.infer_obligations.specs.Words.{DefWithBodyId, RawBody, RawFacts, FellBack, State, System, IsSystemOf, system, Obligations, AreKept, Went, NoneLeft, AreCounted, scope_item, Given, InferenceContext, AllAreAsked, OnlyBinds, UnifiesKnown}
 
 -- ---- while a body is walked
 

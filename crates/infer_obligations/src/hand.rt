@@ -1,13 +1,12 @@
 //! Whether a type can stand in the body of a definition.
 ghost use Rattle.std.specs.Prelude.{◌≡◌, ◌↔◌, IfOk, IsTrue};
-ghost use Rattle.hir_raw.specs.Scope.{params_of, scope_of};
-ghost use Rattle.infer_result.specs.OwnTypes.{IsInHand};
+ghost use Rattle.infer_obligations.specs.Words.{params_of, scope_of, IsInHand};
 
 use crate::made::is_read_type;
-use goal_terms::type_term;
-use hir_facts::{DefWithBodyId, Facts, GenericDefId, RawFacts, Ty};
-use hir_raw::{generic_params, has_associated};
-use infer_table::InferenceTable;
+use infer_coerce::goal_terms::type_term;
+use infer_coerce::hir_facts::{DefWithBodyId, Facts, GenericDefId, RawFacts, Ty};
+use infer_coerce::hir_raw::{generic_params, has_associated};
+use infer_coerce::infer_table::InferenceTable;
 use std::alloc::{AllocError, Global};
 
 /// How many parameters are in scope in the body of a definition.

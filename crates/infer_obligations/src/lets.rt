@@ -1,21 +1,16 @@
 //! What a body knows of the associated types that its `let`s are written with.
 ghost use Rattle.std.specs.Prelude.{◌≡◌, ◌↔◌, IsTrue, IfOk};
-ghost use Rattle.hir_types.specs.Terms.{leaf};
-ghost use Rattle.hir_raw.specs.Scope.{scope_of};
-ghost use Rattle.infer_table.specs.Table.{new_state};
-ghost use Rattle.goal_facts.specs.Systems.{IsSystemOf};
-ghost use Rattle.goal_search.specs.Sources.{system};
-ghost use Rattle.goal_terms.specs.Terms.{term_of};
-ghost use Rattle.infer_result.specs.Needs.{scope_item};
-ghost use Rattle.infer_result.specs.OwnTypes.{AreLetTypes, HoldsPlaceholder};
-ghost use Rattle.infer_obligations.specs.LetTypes.{AreNoted, NotesAlias};
+ghost use Rattle.infer_obligations.specs.Words.{leaf, scope_of, new_state, IsSystemOf, system, term_of, scope_item, AreLetTypes, HoldsPlaceholder};
+ghost use Rattle.infer_obligations.specs.Own.{AreNoted, NotesAlias};
 
 use crate::own::known_ty;
-use goal_terms::{Term, type_term};
-use hir_facts::{DefWithBodyId, Facts, List, RawBody, Ty, TypeRefId, let_aliases, lower_ty};
 use hir_types::Head;
-use infer_ctx::put;
-use infer_goals::GoalTable;
+use infer_coerce::goal_terms::{Term, type_term};
+use infer_coerce::hir_facts::{
+    DefWithBodyId, Facts, List, RawBody, Ty, TypeRefId, let_aliases, lower_ty,
+};
+use infer_coerce::infer_ctx::put;
+use infer_coerce::infer_goals::GoalTable;
 use std::alloc::{AllocError, Global};
 
 /// The written type of this number.
@@ -37,7 +32,7 @@ fn is_placeholder(head: Head) -> bool
 }
 
 /// Whether a `_` stands in a term.
-#[tactic(auto, using(goal_terms::specs::Terms::term_is))]
+#[tactic(auto, using(crate::specs::Words::term_is))]
 fn holds_placeholder(term: &Term) -> bool
     ensures { IsTrue result ↔ HoldsPlaceholder (term_of term.now) }
 {

@@ -1,19 +1,17 @@
 //! Whether a term is that of a type in scope, of which no part is an associated type that is still to be read, an item that can be called or
 //! `{unknown}`.
 ghost use Rattle.std.specs.Prelude.{◌≡◌, ◌↔◌, IsTrue};
-ghost use Rattle.hir_raw.specs.Scope.{alias_params, has_params};
-ghost use Rattle.infer_table.specs.Preserved.{whole, part, rest, width, IsTypeMark, IsHead, IsEnd, IsMadeOf};
-ghost use Rattle.goal_terms.specs.Terms.{term_of};
-ghost use Rattle.infer_result.specs.OwnTypes.{is_read_head};
-ghost use Rattle.infer_obligations.specs.Reading.{body_scope};
+ghost use Rattle.infer_obligations.specs.Words.{alias_params, has_params, whole, part, rest, width, IsTypeMark, IsEnd, IsMadeOf, term_of, is_read_head};
+ghost use Rattle.infer_obligations.specs.Words.infer_table.Preserved.{IsHead};
+ghost use Rattle.infer_obligations.specs.Own.{body_scope};
 
-use goal_terms::Term;
-use hir_facts::RawFacts;
-use hir_raw::alias_params;
 use hir_types::{Head, TypeAliasId};
+use infer_coerce::goal_terms::Term;
+use infer_coerce::hir_facts::RawFacts;
+use infer_coerce::hir_raw::alias_params;
 
 /// Whether these are so many parts.
-#[tactic(auto, using(goal_terms::specs::Terms::term_is))]
+#[tactic(auto, using(crate::specs::Words::term_is))]
 fn has_parts(parts: &Term, count: usize) -> bool
     ensures { IsTrue result ↔ (width (term_of parts.now) ≡ count) }
 {
@@ -50,7 +48,7 @@ fn is_read_head(facts: &RawFacts, params: usize, associated: bool, head: Head, p
     }
 }
 
-#[tactic(auto, using(goal_terms::specs::Terms::term_is))]
+#[tactic(auto, using(crate::specs::Words::term_is))]
 fn is_type_mark(term: &Term) -> bool
     ensures { IsTrue result ↔ IsTypeMark (term_of term.now) }
 {
@@ -60,7 +58,7 @@ fn is_type_mark(term: &Term) -> bool
     }
 }
 
-#[tactic(auto, using(goal_terms::specs::Terms::term_is))]
+#[tactic(auto, using(crate::specs::Words::term_is))]
 fn is_over(facts: &RawFacts, params: usize, associated: bool, first: &Term, parts: &Term) -> bool
     ensures { IsTrue result ↔ IsHead (is_read_head (body_scope facts.now params associated)) (term_of first.now) (width (term_of parts.now)) }
 {
@@ -72,7 +70,7 @@ fn is_over(facts: &RawFacts, params: usize, associated: bool, first: &Term, part
 
 /// Whether the term is that of such a type.
 #[cycle(made)]
-#[tactic(auto, using(goal_terms::specs::Terms::term_is))]
+#[tactic(auto, using(crate::specs::Words::term_is))]
 pub fn is_read_type(facts: &RawFacts, params: usize, associated: bool, term: &Term) -> bool
     ensures { IsTrue result ↔ IsMadeOf (is_read_head (body_scope facts.now params associated)) whole (term_of term.now) }
 {
@@ -87,7 +85,7 @@ pub fn is_read_type(facts: &RawFacts, params: usize, associated: bool, term: &Te
 }
 
 #[cycle(made)]
-#[tactic(auto, using(goal_terms::specs::Terms::term_is))]
+#[tactic(auto, using(crate::specs::Words::term_is))]
 fn is_read_part(facts: &RawFacts, params: usize, associated: bool, term: &Term) -> bool
     ensures { IsTrue result ↔ IsMadeOf (is_read_head (body_scope facts.now params associated)) part (term_of term.now) }
 {
@@ -99,7 +97,7 @@ fn is_read_part(facts: &RawFacts, params: usize, associated: bool, term: &Term) 
 }
 
 #[cycle(made)]
-#[tactic(auto, using(goal_terms::specs::Terms::term_is))]
+#[tactic(auto, using(crate::specs::Words::term_is))]
 fn are_read_parts(facts: &RawFacts, params: usize, associated: bool, term: &Term) -> bool
     ensures { IsTrue result ↔ IsMadeOf (is_read_head (body_scope facts.now params associated)) rest (term_of term.now) }
 {

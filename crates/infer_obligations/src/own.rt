@@ -1,17 +1,12 @@
 //! What a body knows of the types of what its definition takes and gives.
 ghost use Rattle.std.specs.Prelude.{◌≡◌, ◌↔◌, IfOk, IsTrue, [], map, Some};
-ghost use Rattle.hir_raw.specs.WrittenTypes.{written_type};
-ghost use Rattle.hir_raw.specs.Scope.{scope_of};
-ghost use Rattle.hir_facts.specs.Bodies.{HasBody};
-ghost use Rattle.infer_table.specs.Table.{new_state};
-ghost use Rattle.goal_facts.specs.Systems.{IsSystemOf};
-ghost use Rattle.goal_search.specs.Sources.{system};
-ghost use Rattle.infer_result.specs.Needs.{scope_item};
-ghost use Rattle.infer_result.specs.OwnTypes.{IsKnownAs, EachIsKnownAs, AreOwnTypes, aliases_of};
+ghost use Rattle.infer_obligations.specs.Words.{written_type, scope_of, HasBody, new_state, IsSystemOf, system, scope_item, IsKnownAs, EachIsKnownAs, AreOwnTypes, aliases_of};
 
 use crate::hand::is_in_hand;
-use hir_facts::{DefWithBodyId, Facts, Ty, TypeRefId, fn_aliases, lower_ty, return_ty};
-use infer_goals::GoalTable;
+use infer_coerce::hir_facts::{
+    DefWithBodyId, Facts, Ty, TypeRefId, fn_aliases, lower_ty, return_ty,
+};
+use infer_coerce::infer_goals::GoalTable;
 use std::alloc::{AllocError, Global};
 
 /// The types of what a definition takes and gives, each where its body knows of one.

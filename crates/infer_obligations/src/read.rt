@@ -1,17 +1,14 @@
 //! Associated types that goals are about, read as far as their arguments are known.
 ghost use Rattle.std.specs.Prelude.{◌≡◌, ◌<◌, length, IfOk, OnOk};
-ghost use Rattle.infer_ctx.specs.Context.{given_of, scope_in};
-ghost use Rattle.infer_ctx.specs.Closings.{IsSound};
-ghost use Rattle.infer_result.specs.Closed.{IsOfBody};
-ghost use Rattle.infer_ctx.specs.Asked.{IsTold};
-ghost use Rattle.infer_obligations.specs.Reading.{UnifiesInHand, ReadsAlias, ReadsGoal, ReadsEach, ReadsFor, SelectsAndReads, ReadsPath, ReadsPaths, ReadsPat, ReadsPats, ReadsAll, ReadsOn, SettlesNeeds};
+ghost use Rattle.infer_obligations.specs.Words.{given_of, scope_in, IsSound, IsOfBody, IsTold};
+ghost use Rattle.infer_obligations.specs.Own.{UnifiesInHand, ReadsAlias, ReadsGoal, ReadsEach, ReadsFor, SelectsAndReads, ReadsPath, ReadsPaths, ReadsPat, ReadsPats, ReadsAll, ReadsOn, SettlesNeeds};
 
 use crate::hand::is_in_hand;
 use crate::select::select_obligations_where_possible;
-use hir_facts::{ExprId, ExprOrPatId, Goal, PatId, Ty};
+use infer_coerce::hir_facts::{ExprId, ExprOrPatId, Goal, PatId, Ty};
+use infer_coerce::infer_ctx::{GivenBody, InferenceContext};
+use infer_coerce::infer_result::{expr_id, needed_goals, pat_id, pat_needs};
 use infer_coerce::{unify, unify_unknown};
-use infer_ctx::{GivenBody, InferenceContext};
-use infer_result::{expr_id, needed_goals, pat_id, pat_needs};
 use std::alloc::{AllocError, Global};
 
 /// Makes two types equal, where both can be written in the scope of the body; else they differ, or nothing is done.

@@ -1,19 +1,12 @@
 //! What a node needs, registered: `infer/path.rs`, `add_required_obligations_for_value_path`.
 ghost use Rattle.std.specs.Prelude.{◌≡◌, ◌<◌, length, map, slice_get, Some, OnOk};
-ghost use Rattle.hir_raw.specs.declared.raw.RawExpr.{RawExpr};
-ghost use Rattle.infer_table.specs.Table.{HolesAreOf};
-ghost use Rattle.goal_answers.specs.Goals.{Each};
-ghost use Rattle.goal_facts.specs.Goals.{asked_goal};
-ghost use Rattle.goal_search.specs.Sources.{system};
-ghost use Rattle.goal_select.specs.Steps.{GoalIsOf};
-ghost use Rattle.infer_goals.specs.Obligations.{AreKept, HasAllOpen};
-ghost use Rattle.infer_result.specs.Needs.{needed_goals};
-ghost use Rattle.infer_obligations.specs.Registering.{asked_for, Registers};
+ghost use Rattle.infer_obligations.specs.Words.{RawExpr, HolesAreOf, Each, asked_goal, system, GoalIsOf, AreKept, HasAllOpen, needed_goals};
+ghost use Rattle.infer_obligations.specs.Own.{asked_for, Registers};
 
-use hir_facts::{ExprId, ExprOrPatId, Goal, Ty};
-use infer_ctx::GivenBody;
-use infer_goals::GoalTable;
-use infer_result::needed_goals;
+use infer_coerce::hir_facts::{ExprId, ExprOrPatId, Goal, Ty};
+use infer_coerce::infer_ctx::GivenBody;
+use infer_coerce::infer_goals::GoalTable;
+use infer_coerce::infer_result::needed_goals;
 use std::alloc::{AllocError, Global};
 
 /// Registers these goals, which an expression needs, in their order.

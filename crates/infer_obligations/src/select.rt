@@ -1,18 +1,12 @@
 //! Goals selected, so that what selects them is known of the holes: `infer/unify.rs`,
 //! `select_obligations_where_possible`.
 ghost use Rattle.std.specs.Prelude.{◌≡◌, true, OnOk};
-ghost use Rattle.goal_facts.specs.Systems.{IsSystemOf};
-ghost use Rattle.goal_search.specs.Sources.{system};
-ghost use Rattle.infer_goals.specs.Obligations.{AreKept, HasAllOpen};
-ghost use Rattle.infer_result.specs.Closed.{IsOfBody};
-ghost use Rattle.infer_ctx.specs.Asked.{IsTold};
-ghost use Rattle.infer_ctx.specs.Closings.{IsSound};
-ghost use Rattle.infer_ctx.specs.Context.{given_of, scope_in};
-ghost use Rattle.infer_obligations.specs.Selection.{AreSelected, SelectsAlone, SelectsInWalk};
+ghost use Rattle.infer_obligations.specs.Words.{IsSystemOf, system, AreKept, HasAllOpen, IsOfBody, IsTold, IsSound, given_of, scope_in};
+ghost use Rattle.infer_obligations.specs.Own.{AreSelected, SelectsAlone, SelectsInWalk};
 
+use infer_coerce::infer_ctx::{GivenBody, InferenceContext};
+use infer_coerce::infer_goals::GoalTable;
 use infer_coerce::unify_known;
-use infer_ctx::{GivenBody, InferenceContext};
-use infer_goals::GoalTable;
 use std::alloc::AllocError;
 
 /// Selects what can be selected of what nodes needed so far, at the types known so far, and binds holes as that says,

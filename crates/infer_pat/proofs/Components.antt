@@ -1,19 +1,9 @@
 -- What is known of the parts of a tuple pattern.
 use Rattle.std.proofs.Common.{ℕ, ◌≡◌, refl, sym, ap, subst, ◌∙◌, ◌+◌, inl, inr, List, [], ◌∷◌, ◌++◌, length-append, slice_get, Option, Some, None, arith}
 use Rattle.hir_types.specs.declared.head.HoleKind.TheVariants as kind
-use Rattle.hir_types.specs.declared.ty.AliasBound.{AliasBound}
-use Rattle.hir_types.specs.declared.ty.GenericArg.{GenericArg}
-use Rattle.hir_types.specs.declared.ty.TraitRef.{TraitRef}
-use Rattle.hir_types.specs.declared.ty.Ty.{Ty, Ty-F, out-Ty, roll-Ty, roll-out-Ty, out-roll-Ty}
+use Rattle.infer_pat.specs.Words.{AliasBound, GenericArg, TraitRef, Ty, Ty-F, out-Ty, roll-Ty, roll-out-Ty, out-roll-Ty, folded, Scope, resolution, IsOpenOrKnown, State, bindings, hole_count, resolved_type, with_new_hole, InferenceContext, IsSound, component, element_type}
 use Rattle.hir_types.specs.declared.ty.Ty.TheVariants as ty
-use Rattle.hir_types.specs.Subst.{folded}
-use Rattle.hir_raw.specs.Scope.{Scope}
-use Rattle.infer_table.specs.Resolution.{resolution, IsOpenOrKnown}
-use Rattle.infer_table.specs.Table.{State, bindings, hole_count, resolved_type, with_new_hole}
-use Rattle.infer_ctx.specs.declared.context.InferenceContext.{InferenceContext}
-use Rattle.infer_ctx.specs.Closings.{IsSound}
-use Rattle.infer_ctx.specs.Context.{component, element_type}
-use Rattle.infer_pat.specs.Patterns.{AreTupleParts, IsComponentOf, IsGivenOrNew, after_all_given, after_given, given_types}
+use Rattle.infer_pat.specs.Own.{AreTupleParts, IsComponentOf, IsGivenOrNew, after_all_given, after_given, given_types}
 use Rattle.infer_pat.proofs.PatHoles.{no_part_yet, one_part_more, push_cases}
 
 -- ---- a component

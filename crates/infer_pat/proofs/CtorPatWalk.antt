@@ -3,72 +3,26 @@ use Rattle.std.proofs.Common.{◌≡◌, Some, ◌<◌, ◌⊎◌, inl, inr, Lis
 use Rattle.std.proofs.Math.ListN.{drop_of_length-le}
 use Rattle.std.proofs.lemmas.List.{length-append, length-map, length-take-le, map-append, take-append-drop, take-map}
 use Rattle.std.proofs.lemmas.Option.{slice_get_read, slice_get_within, slice_get-map}
-use Rattle.hir_types.specs.declared.ids.PatId.{PatId}
-use Rattle.hir_types.specs.declared.ids.VariantId.{VariantId}
-use Rattle.hir_types.specs.declared.ty.Ty.{Ty}
-use Rattle.hir_raw.specs.declared.raw.RawVariant.{RawVariant}
-use Rattle.hir_raw.specs.declared.schedule.Schedule.{Schedule}
-use Rattle.hir_facts.specs.CarriedTypes.{IsCarriedType}
-use Rattle.infer_result.specs.Closed.{IsItemOfPat}
-use Rattle.infer_result.specs.Table.{PatItem}
-use Rattle.infer_result.specs.Places.{Given, PatIsAtOrMismatch}
-use Rattle.infer_result.specs.Kinds.Constructor.{IsCtorAt, adt_at, fields_at, IsCtorPath}
-use Rattle.infer_result.specs.Pats.Constructor.{PatsAtFields, IsItemOf, IsPatOf}
-use Rattle.infer_ctx.specs.Under.{IsVariant}
-use Rattle.infer_ctx.proofs.Keeps.{pat_at_kept, pat_of_kept}
-use Rattle.infer_ctx.proofs.Lists.{lt_or_ge, slice_get-append_left}
-use Rattle.infer_ctx.proofs.Variants.{pat_named}
-use Rattle.infer_pat.specs.Patterns.{ComesToPat, IsCtorPatOf, PartsAreCounted, IsPatPlaced, IsPathPatOf, PartsCounted, PatDemanded, CtorDemanded, ItemRead, BeforePat, PatIsDemanded, PatDone}
+use Rattle.infer_pat.specs.Words.{PatId, VariantId, Ty, RawVariant, Schedule, IsCarriedType, IsItemOfPat, PatItem, Given, PatIsAtOrMismatch, IsCtorAt, adt_at, fields_at, IsCtorPath, PatsAtFields, IsItemOf, IsPatOf, IsVariant, Assignment, folded, GenericArg, map_twice, RawField, RawType, variant_aliases, ctor_item, taken_types, variant_types, type_args, at_args, written_type, RawPath, Grew, IsOfBody, SaysItsType, InferenceContext, IsSound, found_under, Closes, expected_under, Found, with_pat_item, ArePartTypes, Follows, IsFree, field_at, IsFine, IsFineExpectation, AllFine, ReadsPat, types_scope, variant_arity}
+use Rattle.infer_pat.proofs.Words.{pat_at_kept, pat_of_kept, lt_or_ge, slice_get-append_left, pat_named, ctor_pattern, grew_itself, grew_twice, told_same, told_beside, told_entered, follows_itself, follows_twice, closes_before, of_body_pat_diagnostic, of_body_pat_item, pat_item_under, sound_pat_diagnostic, sound_pat_item, same_found, closes_earlier, every_at, every_from, fine_grown, fine_instances, instances_under, fine_closed, adt_closed, fn_def_closed, get_from_take}
+use Rattle.infer_pat.specs.Own.{ComesToPat, IsCtorPatOf, PartsAreCounted, IsPatPlaced, IsPathPatOf, PartsCounted, PatDemanded, CtorDemanded, ItemRead, BeforePat, PatIsDemanded, PatDone, AreFreshArgs, NamesTyped, PathDone, IsPathType}
 use Rattle.infer_pat.proofs.PatDemands.{entered_opening, Demands, pat_demanded}
 use Rattle.infer_pat.proofs.PatSteps.{enters_more, enters_done, before_pat_under}
 use Rattle.infer_pat.proofs.Pats.{pat_rule_of}
-use Rattle.hir_types.specs.Subst.{Assignment, folded}
-use Rattle.hir_types.specs.declared.ty.GenericArg.{GenericArg}
-use Rattle.hir_types.specs.Folds.{map_twice}
-use Rattle.hir_raw.specs.declared.raw.RawField.{RawField}
-use Rattle.hir_raw.specs.declared.raw.RawType.{RawType}
-use Rattle.hir_raw.specs.Hidden.{variant_aliases}
-use Rattle.hir_raw.specs.Signatures.{ctor_item, taken_types, variant_types, type_args, at_args}
-use Rattle.hir_raw.specs.WrittenTypes.{written_type}
-use Rattle.hir_raw.specs.declared.raw.RawPath.{RawPath}
-use Rattle.hir_facts.proofs.CarriedBodies.{ctor_pattern}
-use Rattle.infer_table.proofs.UndoLaws.{grew_itself}
-use Rattle.infer_table.proofs.HoleLaws.{grew_twice}
-use Rattle.infer_table.specs.Table.{Grew}
-use Rattle.infer_result.specs.Closed.{IsOfBody}
-use Rattle.infer_result.specs.Truth.Mismatch.{SaysItsType}
-use Rattle.infer_ctx.specs.declared.context.InferenceContext.{InferenceContext}
-use Rattle.infer_ctx.specs.Closings.{IsSound, found_under, Closes, expected_under}
-use Rattle.infer_ctx.specs.Found.{Found, with_pat_item}
-use Rattle.infer_ctx.specs.Steps.{ArePartTypes, Follows}
-use Rattle.infer_ctx.specs.Walks.{IsFree}
-use Rattle.infer_ctx.specs.Callables.{field_at}
-use Rattle.infer_ctx.specs.Fine.{IsFine, IsFineExpectation, AllFine}
-use Rattle.infer_ctx.proofs.Asked.{told_same, told_beside}
-use Rattle.infer_ctx.proofs.Expressions.{told_entered}
-use Rattle.infer_ctx.proofs.AtEach.{follows_itself, follows_twice, closes_before}
-use Rattle.infer_ctx.proofs.UnderClosings.{of_body_pat_diagnostic, of_body_pat_item, pat_item_under, sound_pat_diagnostic, sound_pat_item, same_found, closes_earlier}
-use Rattle.infer_ctx.proofs.FineTypes.{every_at, every_from, fine_grown}
-use Rattle.infer_ctx.proofs.Instances.{fine_instances, instances_under}
-use Rattle.infer_ctx.proofs.OverTypes.{fine_closed, adt_closed, fn_def_closed}
-use Rattle.infer_pat.specs.Paths.{AreFreshArgs, NamesTyped, PathDone, IsPathType}
 use Rattle.infer_pat.proofs.PathWalk.{adt_fine, ctor_item_fine, ctor_under, variant_under}
 use Rattle.infer_pat.proofs.CtorPats.{Counted, parts_counted, path_pat_done, parts_at}
-use Rattle.infer_obligations.specs.Reading.{ReadsPat}
 use Rattle.infer_pat.proofs.PatItems.{counted_items, demanded_items, item_demands, item_has}
 use Rattle.infer_pat.proofs.PatParts.{AtPat, begins_pats, comes_to_pat, past_pat, pats_past}
 use Rattle.hir_types.specs.declared.ids.CallableDefId.TheVariants as callable
 use Rattle.hir_types.specs.declared.ids.ExprOrPatId.TheVariants as node
 use Rattle.hir_types.specs.declared.ty.GenericArg.TheVariants as arg
-use Rattle.hir_raw.specs.declared.raw.RawCtor.TheVariants as ctor
-use Rattle.infer_table.proofs.BindingLaws.{get_from_take}
-use Rattle.hir_raw.specs.declared.raw.RawPat.TheVariants as pat
-use Rattle.hir_raw.specs.declared.raw.RawPath.TheVariants as path
-use Rattle.infer_result.specs.declared.diagnostics.InferenceDiagnostic.TheVariants as diagnostic
+use Rattle.infer_pat.specs.Words.hir_raw.declared.raw.RawCtor.TheVariants as ctor
+use Rattle.infer_pat.specs.Words.hir_raw.declared.raw.RawPat.TheVariants as pat
+use Rattle.infer_pat.specs.Words.hir_raw.declared.raw.RawPath.TheVariants as path
+use Rattle.infer_pat.specs.Words.infer_result.declared.diagnostics.InferenceDiagnostic.TheVariants as diagnostic
 use Rattle.hir_types.specs.declared.ty.Ty.TheVariants as ty
-use Rattle.infer_ctx.specs.Context as context
-use Rattle.infer_ctx.specs.Found as found
-use Rattle.hir_raw.specs.Scope.{types_scope, variant_arity}
+use Rattle.infer_pat.specs.Words.infer_ctx.Context as context
+use Rattle.infer_pat.specs.Words.infer_ctx.Found as found
 
 -- ---- the number of parts
 

@@ -1,31 +1,16 @@
 -- Patterns of constructors: the complaint about the number of parts, the loop over the parts, and paths.
 use Rattle.std.proofs.Common.{◌≡◌, Some, ◌<◌, ◌⊎◌, inl, inr, List, length, refl, sym, ap, subst, ◌∙◌, arith, Option, slice_get, ℕ, suc, [], ◌∷◌}
-use Rattle.hir_types.specs.declared.ids.PatId.{PatId}
-use Rattle.hir_types.specs.declared.ids.VariantId.{VariantId}
-use Rattle.hir_types.specs.declared.ty.Ty.{Ty}
-use Rattle.hir_raw.specs.declared.raw.RawVariant.{RawVariant}
-use Rattle.hir_raw.specs.declared.schedule.Schedule.{Schedule}
-use Rattle.infer_result.specs.declared.diagnostics.InferenceDiagnostic.{InferenceDiagnostic}
-use Rattle.infer_result.specs.Table.{HasPatDiagnostic}
-use Rattle.infer_result.specs.Places.{Given, PatIsAtOrMismatch}
-use Rattle.infer_result.specs.Kinds.Constructor.{IsCtorPath}
-use Rattle.infer_result.specs.Truth.Diagnostics.{IsTruePatDiagnostic}
-use Rattle.infer_result.specs.declared.result.InferenceResult.{InferenceResult}
-use Rattle.infer_result.specs.Pats.Constructor.{PatsAtFields}
-use Rattle.infer_ctx.specs.Found.{Found, entered, with_pat_diagnostic}
-use Rattle.infer_ctx.specs.Walks.{Extends}
-use Rattle.infer_ctx.proofs.Keeps.{obeys_kept, pat_kept, diagnostic_kept, seen_as_kept}
-use Rattle.infer_ctx.proofs.Lists.{noted-keeps, noted-cases, noted-some, length-noted}
-use Rattle.infer_ctx.proofs.Parts.{pat_id, pat_ahead}
-use Rattle.infer_ctx.proofs.Variants.{pat_named}
-use Rattle.infer_pat.specs.Patterns.{ComesToPat, IsCtorPatOf, PartsAreCounted, PatWalked, IsPathPatOf}
+use Rattle.infer_pat.specs.Words.{PatId, VariantId, Ty, RawVariant, Schedule, InferenceDiagnostic, HasPatDiagnostic, Given, PatIsAtOrMismatch, IsCtorPath, IsTruePatDiagnostic, InferenceResult, PatsAtFields, Found, Extends}
+use Rattle.infer_pat.specs.Words.infer_ctx.Found.{entered, with_pat_diagnostic}
+use Rattle.infer_pat.proofs.Words.{obeys_kept, pat_kept, diagnostic_kept, seen_as_kept, noted-keeps, noted-cases, noted-some, length-noted, pat_id, pat_ahead, pat_named}
+use Rattle.infer_pat.specs.Own.{ComesToPat, IsCtorPatOf, PartsAreCounted, PatWalked, IsPathPatOf}
 use Rattle.infer_pat.proofs.PatDemands.{IsOpening, entered_opening, Demands}
 use Rattle.infer_pat.proofs.PatSteps.{enters_now, enters_done}
 use Rattle.infer_pat.proofs.Pats.{pat_rule_of}
 use Rattle.hir_types.specs.declared.ids.ExprOrPatId.TheVariants as node
-use Rattle.hir_raw.specs.declared.raw.RawPat.TheVariants as pat
-use Rattle.hir_raw.specs.declared.raw.RawPath.TheVariants as path
-use Rattle.infer_result.specs.declared.diagnostics.InferenceDiagnostic.TheVariants as diagnostic
+use Rattle.infer_pat.specs.Words.hir_raw.declared.raw.RawPat.TheVariants as pat
+use Rattle.infer_pat.specs.Words.hir_raw.declared.raw.RawPath.TheVariants as path
+use Rattle.infer_pat.specs.Words.infer_result.declared.diagnostics.InferenceDiagnostic.TheVariants as diagnostic
 
 only_some : {A : Type 0} {y z : A} → Some y ≡ Some z → y ≡ z
 only_some q = cc

@@ -12,3 +12,4 @@ pub mod TuplePats
 pub mod PatParts
 pub mod Components
 pub mod PatLiterals
+pub mod Words

@@ -1,45 +1,13 @@
 -- Literals: the holes that they make, and their types.
 use Rattle.std.proofs.Common.{◌≡◌, sym, subst, arith, Option, Some, slice_get, ap, ◌∙◌, refl, None, unwrap_or}
-use Rattle.hir_types.specs.declared.ids.ExprId.{ExprId}
-use Rattle.hir_types.specs.declared.ty.Ty.{Ty, Ty-F, out-Ty}
-use Rattle.hir_types.specs.declared.ty.AliasBound.{AliasBound}
-use Rattle.hir_types.specs.declared.ty.GenericArg.{GenericArg}
-use Rattle.hir_types.specs.declared.ty.TraitRef.{TraitRef}
-use Rattle.hir_types.specs.Subst.{folded, with_holes}
-use Rattle.hir_types.specs.declared.ty.IntegerTy.{IntegerTy}
-use Rattle.hir_types.specs.Types.{integer_type}
-use Rattle.hir_types.specs.Replacements.{replaced_int_var}
-use Rattle.hir_types.specs.Folds.{Maps, in_ty}
+use Rattle.infer_pat.specs.Words.{ExprId, Ty, Ty-F, out-Ty, AliasBound, GenericArg, TraitRef, folded, with_holes, IntegerTy, integer_type, replaced_int_var, Maps, in_ty, RawLiteral, Schedule, carried_integer, Scope, IsOpenOrKnown, State, bindings, resolved_type, with_new_hole, hole_count, stays_itself, stays_with, IsOfBody, Given, InferenceContext, Closes, found_under, expected_under, IsSound, Within, KindDone, KindWalked}
 use Rattle.hir_types.specs.declared.ty.UintTy.TheVariants as uint
 use Rattle.hir_types.specs.declared.ty.Ty.TheVariants as ty
 use Rattle.hir_types.specs.declared.ty.IntegerTy.TheVariants as integer
 use Rattle.hir_types.specs.declared.head.HoleKind.TheVariants as kind
-use Rattle.hir_raw.specs.declared.raw.RawLiteral.{RawLiteral}
-use Rattle.hir_raw.specs.declared.schedule.Schedule.{Schedule}
-use Rattle.hir_facts.specs.CarriedTypes.{carried_integer}
-use Rattle.hir_raw.specs.Scope.{Scope}
-use Rattle.hir_raw.specs.declared.raw.RawExpr.TheVariants as expr
-use Rattle.infer_table.specs.Resolution.{IsOpenOrKnown}
-use Rattle.infer_table.specs.Table.{State, bindings, resolved_type, with_new_hole, hole_count}
-use Rattle.infer_table.proofs.UndoLaws.{grew_itself}
-use Rattle.infer_table.proofs.HoleLaws.{grew_by_hole}
-use Rattle.infer_ctx.specs.Below.{stays_itself, stays_with}
-use Rattle.infer_result.specs.Closed.{IsOfBody}
-use Rattle.infer_result.specs.Places.{Given}
-use Rattle.infer_ctx.specs.declared.context.InferenceContext.{InferenceContext}
-use Rattle.infer_ctx.specs.Closings.{Closes, found_under, expected_under, IsSound}
-use Rattle.infer_ctx.specs.Steps.{Within, KindDone}
-use Rattle.infer_ctx.specs.Under.{KindWalked}
-use Rattle.infer_ctx.proofs.Expected.{IsOfLayer, read_alike}
-use Rattle.infer_ctx.proofs.Leaves.{literal_done}
-use Rattle.infer_ctx.proofs.UnderClosings.{same_found, closes_earlier}
-use Rattle.infer_ctx.proofs.Tellings.{literal_tells}
-use Rattle.infer_ctx.proofs.Asked.{told_same}
-use Rattle.infer_ctx.proofs.AtEach.{within_under}
-use Rattle.infer_ctx.proofs.OverTypes.{carried_closed}
-use Rattle.infer_ctx.proofs.FineTypes.{fine_integer, fine_int_hole}
-use Rattle.infer_coerce.proofs.Holes.{holed, holed_sound}
-use Rattle.infer_pat.specs.Literals.{LiteralDone, IntDone, integer_step, integer_for, expected_integer, unsuffixed_type}
+use Rattle.infer_pat.specs.Words.hir_raw.declared.raw.RawExpr.TheVariants as expr
+use Rattle.infer_pat.proofs.Words.{grew_itself, grew_by_hole, IsOfLayer, read_alike, literal_done, same_found, closes_earlier, literal_tells, told_same, within_under, carried_closed, fine_integer, fine_int_hole, holed, holed_sound}
+use Rattle.infer_pat.specs.Own.{LiteralDone, IntDone, integer_step, integer_for, expected_integer, unsuffixed_type}
 
 -- ---- literals
 pub literal_kind : (g : Given) (s : Schedule) (e : ExprId) (x : Option Ty) (l : RawLiteral) (t : Ty) (c new : InferenceContext) → Within g s e x c → slice_get g.body.exprs e.0 ≡ Some (expr.Lit l) → LiteralDone g.scope x l t c new → KindDone g s e x t c new

@@ -1,23 +1,11 @@
 -- What a pattern that says its type asks of what comes into it.
 use Rattle.std.specs.Option.{option_and_then}
 use Rattle.std.proofs.Common.{◌≡◌, refl, Option, Some, None, ◌+◌, arith, inl, inr, sym, ap, subst, ◌∙◌, slice_get}
-use Rattle.hir_types.specs.declared.ids.PatId.{PatId}
-use Rattle.hir_types.specs.declared.ty.Ty.{Ty}
-use Rattle.hir_raw.specs.declared.raw.RawPat.{RawPat}
-use Rattle.hir_raw.specs.Order.{binding_of}
-use Rattle.hir_raw.specs.declared.schedule.Schedule.{Schedule}
-use Rattle.hir_facts.specs.CarriedTypes.{IsCarriedType, same_carried}
-use Rattle.hir_raw.specs.declared.raw.RawPat.TheVariants as pat
-use Rattle.infer_result.specs.Truth.Mismatch.{SaysItsType, IsTruePatMismatch}
-use Rattle.infer_result.specs.declared.result.InferenceResult.{InferenceResult}
-use Rattle.infer_result.specs.Table.{HasPatMismatch, PatTy, mismatch}
-use Rattle.infer_result.specs.Places.{MisfitsAs, Given, PatIsAtOrMismatch}
-use Rattle.infer_result.specs.declared.result.TypeMismatch.{TypeMismatch}
-use Rattle.infer_ctx.specs.Found.{Found, entered, with_pat_ty, with_pat_mismatch}
-use Rattle.infer_ctx.specs.Walks.{IsFree, IsWalked, Extends}
-use Rattle.infer_ctx.specs.Context.{IsCarriedExpectation}
-use Rattle.infer_ctx.proofs.Keeps.{incoming_kept, extends_trans}
-use Rattle.infer_pat.specs.Patterns.{ComesToPat, IsPatPlaced, IsDemanded, PatIsDemanded}
+use Rattle.infer_pat.specs.Words.{PatId, Ty, RawPat, binding_of, Schedule, IsCarriedType, same_carried, SaysItsType, IsTruePatMismatch, InferenceResult, HasPatMismatch, PatTy, mismatch, MisfitsAs, Given, PatIsAtOrMismatch, TypeMismatch, Found, with_pat_ty, IsFree, IsWalked, Extends, IsCarriedExpectation}
+use Rattle.infer_pat.specs.Words.hir_raw.declared.raw.RawPat.TheVariants as pat
+use Rattle.infer_pat.specs.Words.infer_ctx.Found.{entered, with_pat_mismatch}
+use Rattle.infer_pat.proofs.Words.{incoming_kept, extends_trans}
+use Rattle.infer_pat.specs.Own.{ComesToPat, IsPatPlaced, IsDemanded, PatIsDemanded}
 use Rattle.infer_pat.proofs.PatSteps.{Enters, enters_now, extends, IsBoundBy, IsRecordable, has_type, has_mismatch, recorded_walked, enters_recorded}
 
 -- a pattern that says its type binds nothing itself

@@ -1,41 +1,13 @@
 -- New holes for the types of patterns, and what a tuple pattern asks of what comes in.
 use Rattle.std.proofs.Common.{◌≡◌, refl, Some, None, ℕ, List, slice_get, zero, suc, ◌+◌, ◌⊎◌, inl, inr, length, [], ◌∷◌, ◌++◌, subst, ◌∙◌, arith, length-append, Option, sym, ap, map, true, false}
-use Rattle.hir_types.specs.declared.ty.Ty.{Ty}
-use Rattle.hir_types.specs.Subst.{folded, Assignment, with_holes}
-use Rattle.hir_types.specs.Terms.{Term, term, terms_of}
-use Rattle.hir_types.specs.TermLaws.{term_folded}
-use Rattle.hir_types.specs.Replacements.{replaced_tuple}
-use Rattle.hir_types.specs.declared.ids.PatId.{PatId}
+use Rattle.infer_pat.specs.Words.{Ty, folded, Assignment, with_holes, Term, term, terms_of, term_folded, replaced_tuple, PatId, Scope, IsCarriedType, AreCarriedTypes, carried_tuple, with_new_hole, hole_count, State, HolesAreOf, bindings, resolved_type, whole, IsMadeOf, made_of_resolved, made_of_within, resolution, resolution_term, resolved, stays_itself, stays_twice, stays_with, IsOfBody, mismatch, Given, InferenceContext, IsTold, IsSound, IsClosing, Closes, closed_mismatch, found_under, expected_under, IsFine, is_fine_head, AllFine, ArePartTypes, Follows, with_pat_mismatch, IsUnifiedIf}
 use Rattle.hir_types.specs.declared.head.HoleKind.TheVariants as kind
 use Rattle.hir_types.specs.declared.ty.Ty.TheVariants as ty
-use Rattle.hir_raw.specs.Scope.{Scope}
-use Rattle.hir_facts.specs.CarriedTypes.{IsCarriedType, AreCarriedTypes, carried_tuple}
-use Rattle.infer_table.proofs.UndoLaws.{grew_itself}
-use Rattle.infer_table.proofs.HoleLaws.{grew_by_hole, grew_twice}
-use Rattle.infer_table.specs.Table.{with_new_hole, hole_count, State, HolesAreOf, bindings, resolved_type}
-use Rattle.infer_table.specs.Preserved.{whole, IsMadeOf, made_of_resolved, made_of_within}
-use Rattle.infer_table.specs.Resolution.{resolution, resolution_term}
-use Rattle.infer_table.specs.Solutions.{log_of, resolved}
-use Rattle.infer_ctx.specs.Below.{stays_itself, stays_twice, stays_with}
-use Rattle.infer_result.specs.Closed.{IsOfBody}
-use Rattle.infer_result.specs.Table.{mismatch}
-use Rattle.infer_result.specs.Places.{Given}
-use Rattle.infer_ctx.specs.declared.context.InferenceContext.{InferenceContext}
-use Rattle.infer_ctx.specs.Asked.{IsTold}
-use Rattle.infer_ctx.specs.Closings.{IsSound, IsClosing, Closes, closed_mismatch, found_under, expected_under}
-use Rattle.infer_ctx.specs.Fine.{IsFine, is_fine_head, AllFine}
-use Rattle.infer_ctx.specs.Steps.{ArePartTypes, Follows}
-use Rattle.infer_ctx.specs.Context.{with_pat_ty, with_pat_mismatch}
-use Rattle.infer_ctx.specs.Found as found
-use Rattle.infer_ctx.proofs.Asked.{told_beside}
-use Rattle.infer_ctx.proofs.AtEach.{follows_itself}
-use Rattle.infer_ctx.proofs.FineTypes.{fine_hole, fine_grown, fine_no_alias, fine_tuple}
-use Rattle.infer_ctx.proofs.OverTypes.{fine_closed}
-use Rattle.infer_ctx.proofs.UnderClosings.{same_found, closes_same, pat_ty_under, pat_mismatch_under, of_body_pat_ty, of_body_pat_mismatch, sound_pat_ty, sound_pat_mismatch}
-use Rattle.infer_coerce.specs.MadeEqual.{IsUnifiedIf}
-use Rattle.infer_coerce.proofs.Holes.{holed, holed_sound}
-use Rattle.infer_coerce.proofs.Unified.{bound_heads}
-use Rattle.infer_pat.specs.Patterns.{IsGivenOrNew, PatDemanded, IsDemanded}
+use Rattle.infer_pat.proofs.Words.{grew_itself, grew_by_hole, grew_twice, told_beside, follows_itself, fine_hole, fine_grown, fine_no_alias, fine_tuple, fine_closed, same_found, closes_same, pat_ty_under, pat_mismatch_under, of_body_pat_ty, of_body_pat_mismatch, sound_pat_ty, sound_pat_mismatch, holed, holed_sound, bound_heads}
+use Rattle.infer_pat.specs.Words.infer_table.Solutions.{log_of}
+use Rattle.infer_pat.specs.Words.infer_ctx.Context.{with_pat_ty}
+use Rattle.infer_pat.specs.Words.infer_ctx.Found as found
+use Rattle.infer_pat.specs.Own.{IsGivenOrNew, PatDemanded, IsDemanded}
 
 -- ---- new holes
 

@@ -1,19 +1,9 @@
 -- Which item a pattern is of, recorded beside its type.
 use Rattle.std.proofs.Common.{◌≡◌, refl, Option, Some, None, ℕ, ◌<◌, ◌≤◌, ◌≢◌, ◌⊎◌, length, arith, inl, inr, sym, ap, subst, ◌∙◌, slice_get}
 use Rattle.std.proofs.Math.ListN.{length-set}
-use Rattle.hir_types.specs.declared.ids.PatId.{PatId}
-use Rattle.hir_types.specs.declared.ty.Ty.{Ty}
-use Rattle.hir_raw.specs.declared.schedule.Schedule.{Schedule}
-use Rattle.hir_facts.specs.CarriedTypes.{IsCarriedType}
-use Rattle.infer_result.specs.Closed.{IsItemOfPat}
-use Rattle.infer_result.specs.Places.{Given}
-use Rattle.infer_result.specs.Table.{At, PatItem}
-use Rattle.infer_ctx.specs.Found.{Found, with_pat_item}
-use Rattle.infer_ctx.specs.Walks.{Extends, IsFree, IsWalked, pat_start}
-use Rattle.infer_ctx.proofs.Keeps.{extends_trans, obeys_kept, pat_kept, pat_at_kept, pat_truth_kept, misfit_kept, demand_kept, diagnostic_kept, seen_as_kept}
-use Rattle.infer_ctx.proofs.Lists.{At-set, At-set_cases, slice_get-set_same, slice_get-set_other}
-use Rattle.infer_ctx.proofs.Parts.{pat_id}
-use Rattle.infer_pat.specs.Patterns.{IsPatPlaced, IsDemanded, PatIsDemanded, PartsAreCounted}
+use Rattle.infer_pat.specs.Words.{PatId, Ty, Schedule, IsCarriedType, IsItemOfPat, Given, At, PatItem, Found, with_pat_item, Extends, IsFree, IsWalked, pat_start}
+use Rattle.infer_pat.proofs.Words.{extends_trans, obeys_kept, pat_kept, pat_at_kept, pat_truth_kept, misfit_kept, demand_kept, diagnostic_kept, seen_as_kept, At-set, At-set_cases, slice_get-set_same, slice_get-set_other, pat_id}
+use Rattle.infer_pat.specs.Own.{IsPatPlaced, IsDemanded, PatIsDemanded, PartsAreCounted}
 use Rattle.infer_pat.proofs.PatDemands.{Demands}
 use Rattle.infer_pat.proofs.PatSteps.{open_walked}
 

@@ -1,18 +1,9 @@
 -- A literal that a pattern is has its type, and needs nothing.
 use Rattle.std.proofs.Common.{◌≡◌, ◌∙◌, inl, inr, refl, sym, ap, subst, [], slice_get, Option, Some, None, option_and_then}
-use Rattle.hir_types.specs.declared.ids.ExprId.{ExprId}
-use Rattle.hir_types.specs.declared.ty.Ty.{Ty}
-use Rattle.hir_raw.specs.declared.raw.RawExpr.{RawExpr}
-use Rattle.hir_raw.specs.declared.raw.RawExpr.TheVariants as expr
-use Rattle.hir_raw.specs.declared.raw.RawFacts.{RawFacts}
-use Rattle.hir_facts.specs.Literals.{IsLiteral}
-use Rattle.infer_result.specs.Needs.{needs_of, needs_at}
-use Rattle.infer_result.specs.Places.{Given}
-use Rattle.infer_result.specs.Table.{recorded}
-use Rattle.infer_ctx.specs.Asked.{asked_at, AllAreAsked, IsTold}
-use Rattle.infer_ctx.specs.Context.{with_expr_ty}
-use Rattle.infer_ctx.specs.declared.context.InferenceContext.{InferenceContext}
-use Rattle.infer_ctx.proofs.Lists.{same_or_not, slice_get-set_other}
+use Rattle.infer_pat.specs.Words.{ExprId, Ty, RawExpr, RawFacts, IsLiteral, needs_of, needs_at, Given, recorded, AllAreAsked, IsTold, with_expr_ty, InferenceContext}
+use Rattle.infer_pat.specs.Words.hir_raw.declared.raw.RawExpr.TheVariants as expr
+use Rattle.infer_pat.specs.Words.infer_ctx.Asked.{asked_at}
+use Rattle.infer_pat.proofs.Words.{same_or_not, slice_get-set_other}
 
 literal_needs : (raw : RawFacts) (y : Option RawExpr) (o : Option Ty) → IsLiteral y → needs_of raw y o ≡ []
 literal_needs raw None o h = absurd h

@@ -1,29 +1,11 @@
 -- One part of a pattern after another.
 use Rattle.std.proofs.Common.{ℕ, ◌+◌, ◌<◌, ◌≤◌, ◌≡◌, List, [], ◌∷◌, length, drop, get_or, sym, ap, subst, ◌∙◌, arith, suc, Option, Some, slice_get}
 use Rattle.std.proofs.Math.ListN.{drop_of_length-le}
-use Rattle.hir_types.specs.declared.ids.PatId.{PatId}
+use Rattle.infer_pat.specs.Words.{PatId, Ty, Assignment, RawPat, Schedule, inner, after, pat_part, pat_parts, subpatterns, subpattern, IsOfBody, Given, InferenceContext, Closes, IsSound, expected_under, found_under, IsFineExpectation, IsTold, IsReady, IsWalked, Nothing, pat_start, pat_end}
 use Rattle.hir_types.specs.declared.ids.ExprOrPatId.TheVariants as node
-use Rattle.hir_types.specs.declared.ty.Ty.{Ty}
-use Rattle.hir_types.specs.Subst.{Assignment}
-use Rattle.hir_raw.specs.declared.raw.RawPat.{RawPat}
-use Rattle.hir_raw.specs.declared.schedule.Schedule.{Schedule}
-use Rattle.hir_raw.specs.Order.{inner, after, pat_part, pat_parts, subpatterns, subpattern}
-use Rattle.infer_result.specs.Closed.{IsOfBody}
-use Rattle.infer_result.specs.Places.{Given}
-use Rattle.infer_result.specs.Incoming.{Gives}
-use Rattle.infer_ctx.specs.declared.context.InferenceContext.{InferenceContext}
-use Rattle.infer_ctx.specs.Closings.{Closes, IsSound, expected_under, found_under}
-use Rattle.infer_ctx.specs.Fine.{IsFineExpectation}
-use Rattle.infer_ctx.specs.Asked.{IsTold}
-use Rattle.infer_ctx.specs.Under.{IsReady}
-use Rattle.infer_ctx.specs.Walks.{IsWalked, Nothing, pat_start, pat_end}
-use Rattle.infer_ctx.proofs.AtEach.{follows_itself, walking_after}
-use Rattle.infer_ctx.proofs.Category.{walks_refl}
-use Rattle.infer_ctx.proofs.InParts.{WalksParts, goes_past}
-use Rattle.infer_ctx.proofs.Lists.{drop-step}
-use Rattle.infer_ctx.proofs.Parts.{ahead_stands, pat_ahead}
-use Rattle.infer_ctx.proofs.Tellings.{part_tells}
-use Rattle.infer_pat.specs.Patterns.{BeforePat, PatDone}
+use Rattle.infer_pat.specs.Words.infer_result.Incoming.{Gives}
+use Rattle.infer_pat.proofs.Words.{follows_itself, walking_after, walks_refl, WalksParts, goes_past, drop-step, ahead_stands, pat_ahead, part_tells}
+use Rattle.infer_pat.specs.Own.{BeforePat, PatDone}
 
 -- the first i parts of the pattern p are behind, and the others lie ahead; no part owes anything
 abbrev pub AtPat : Given → Schedule → PatId → List PatId → ℕ → InferenceContext → InferenceContext → Type 0

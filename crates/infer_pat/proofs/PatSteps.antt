@@ -3,42 +3,13 @@
 use Rattle.std.specs.Option.{option_and_then}
 use Rattle.std.proofs.Common.{Option, ◌≡◌, List, ◌∷◌, Some, None, slice_get, ℕ, ◌<◌, ◌≤◌, length, ◌⊎◌, inl, inr, ap, refl, sym, subst, ◌∙◌, arith, ◌≢◌}
 use Rattle.std.proofs.Math.ListN.{set, length-set}
-use Rattle.hir_types.specs.declared.ids.PatId.{PatId}
-use Rattle.hir_types.specs.declared.ty.Ty.{Ty}
-use Rattle.hir_types.specs.Subst.{Assignment}
-use Rattle.hir_types.specs.declared.ids.BindingId.{BindingId}
-use Rattle.hir_types.specs.declared.ids.ExprId.{ExprId}
-use Rattle.hir_raw.specs.declared.schedule.Schedule.{Schedule}
-use Rattle.hir_raw.specs.Order.{Part, Node, Role, pat_part, binding_of, Binds}
-use Rattle.hir_raw.specs.declared.raw.RawPat.{RawPat}
-use Rattle.hir_raw.specs.declared.raw.RawBody.{RawBody}
-use Rattle.hir_facts.specs.CarriedTypes.{IsCarriedType}
-use Rattle.hir_raw.specs.declared.raw.RawPat.TheVariants as pat
-use Rattle.infer_result.specs.Places.{Given, OnlyPlaceholdersHaveTypes}
-use Rattle.infer_result.specs.Incoming.{Gives}
-use Rattle.infer_result.specs.Demands.{Demand}
-use Rattle.infer_result.specs.Closed.{IsBinder, IsOfBody, OnlyBindersHaveModes, OnlyCtorPatsHaveItems}
-use Rattle.infer_result.specs.Table.{At, BindingTy, PatTy, HasMode, HasPatMismatch}
-use Rattle.infer_result.specs.declared.result.Seen.{Seen}
-use Rattle.infer_result.specs.Truth.Diagnostics.{IsTrueDiagnostic, IsTruePatDiagnostic}
-use Rattle.infer_result.specs.declared.diagnostics.InferenceDiagnostic.{InferenceDiagnostic}
-use Rattle.infer_result.specs.declared.result.TypeMismatch.{TypeMismatch}
-use Rattle.infer_result.specs.Rules.{ObeysOrMismatch, PatRule}
-use Rattle.infer_result.specs.Truth.Mismatch.{IsTruePatMismatch}
-use Rattle.infer_result.specs.Made.{IsMisfit}
-use Rattle.infer_result.specs.declared.modes.BindingMode.{BindingMode}
-use Rattle.infer_result.specs.declared.modes.BindingMode.TheVariants as mode
-use Rattle.infer_ctx.specs.declared.context.InferenceContext.{InferenceContext}
-use Rattle.infer_ctx.specs.Closings.{Closes, found_under, expected_under}
-use Rattle.infer_ctx.specs.Found.{Found, RecordsVariants, entered, noted}
-use Rattle.infer_ctx.specs.Context.{IsCarriedExpectation}
-use Rattle.infer_ctx.specs.Walks.{IsWalked, IsSeenAs, IsFree, IsCarriedTable, expr_start, pat_start, Extends, Walks, Nothing}
-use Rattle.infer_ctx.specs.Under.{LieAhead, IsReady}
-use Rattle.infer_ctx.proofs.AtEach.{expected_carried}
-use Rattle.infer_ctx.proofs.Parts.{ahead_stands, pat_id, one_pat, expr_is_no_pat, binds_within, binding_id}
-use Rattle.infer_ctx.proofs.Lists.{same_or_not, lt_or_ge, own_set, slice_get-set_same, slice_get-set_other, At-set, At-set_cases, length-own_set, own_set-at, own_set-other, own_set-cases, noted-keeps, noted-cases, noted-some, length-noted}
-use Rattle.infer_ctx.proofs.Keeps.{extends_refl, seen_as_entered, extends_trans, obeys_kept, pat_kept, pat_truth_kept, misfit_kept, demand_kept, diagnostic_kept, seen_as_kept}
-use Rattle.infer_pat.specs.Patterns.{BeforePat, ComesToPat}
+use Rattle.infer_pat.specs.Words.{PatId, Ty, Assignment, BindingId, ExprId, Schedule, Part, Node, Role, pat_part, binding_of, Binds, RawPat, RawBody, IsCarriedType, Given, OnlyPlaceholdersHaveTypes, Demand, IsBinder, IsOfBody, OnlyBindersHaveModes, OnlyCtorPatsHaveItems, At, BindingTy, PatTy, HasMode, HasPatMismatch, Seen, IsTrueDiagnostic, IsTruePatDiagnostic, InferenceDiagnostic, TypeMismatch, ObeysOrMismatch, PatRule, IsTruePatMismatch, IsMisfit, BindingMode, InferenceContext, Closes, found_under, expected_under, Found, RecordsVariants, noted, IsCarriedExpectation, IsWalked, IsSeenAs, IsFree, IsCarriedTable, expr_start, pat_start, Extends, Walks, Nothing, LieAhead, IsReady}
+use Rattle.infer_pat.specs.Words.hir_raw.declared.raw.RawPat.TheVariants as pat
+use Rattle.infer_pat.specs.Words.infer_result.Incoming.{Gives}
+use Rattle.infer_pat.specs.Words.infer_result.declared.modes.BindingMode.TheVariants as mode
+use Rattle.infer_pat.specs.Words.infer_ctx.Found.{entered}
+use Rattle.infer_pat.proofs.Words.{expected_carried, ahead_stands, pat_id, one_pat, expr_is_no_pat, binds_within, binding_id, same_or_not, lt_or_ge, own_set, slice_get-set_same, slice_get-set_other, At-set, At-set_cases, length-own_set, own_set-at, own_set-other, own_set-cases, noted-keeps, noted-cases, noted-some, length-noted, extends_refl, seen_as_entered, extends_trans, obeys_kept, pat_kept, pat_truth_kept, misfit_kept, demand_kept, diagnostic_kept, seen_as_kept}
+use Rattle.infer_pat.specs.Own.{BeforePat, ComesToPat}
 
 module _ (g : Given) (s : Schedule) (a : Assignment) (c : InferenceContext) (k : Closes a c) where
   pub before_pat_under : (p : PatId) (x : Option Ty) → BeforePat g s p x c → ComesToPat g s p (expected_under a x) (found_under a c)

@@ -1,38 +1,12 @@
 -- Patterns that bind a name or nothing, and literals.
 use Rattle.std.specs.Option.{option_and_then}
 use Rattle.std.proofs.Common.{Bool, ◌≡◌, refl, ap, ◌∙◌, Option, Some, None, ◌<◌, length, sym, subst, arith, slice_get, inr, inl}
-use Rattle.hir_types.specs.declared.ty.Ty.{Ty}
-use Rattle.hir_types.specs.Subst.{Assignment, folded}
-use Rattle.hir_types.specs.declared.ids.BindingId.{BindingId}
-use Rattle.hir_types.specs.declared.ids.PatId.{PatId}
-use Rattle.hir_types.specs.declared.ids.ExprId.{ExprId}
-use Rattle.hir_raw.specs.declared.schedule.Schedule.{Schedule}
-use Rattle.hir_facts.specs.CarriedTypes.{IsCarriedType}
-use Rattle.hir_raw.specs.Order.{Binds, binding_of}
-use Rattle.hir_raw.specs.declared.raw.RawPat.TheVariants as pat
-use Rattle.infer_table.proofs.HoleLaws.{grew_twice}
-use Rattle.infer_table.proofs.UndoLaws.{grew_itself}
-use Rattle.infer_ctx.specs.Below.{stays_itself}
-use Rattle.infer_result.specs.Closed.{IsOfBody}
-use Rattle.infer_result.specs.Places.{Given}
-use Rattle.infer_ctx.specs.Closings.{expected_under, Closes, found_under}
-use Rattle.infer_ctx.specs.declared.context.InferenceContext.{InferenceContext}
-use Rattle.infer_ctx.specs.Found.{Found}
-use Rattle.infer_ctx.specs.Tells.{TellsBound, TellsRecorded, TellsBinding}
-use Rattle.infer_ctx.specs.Steps.{Follows, Before, OwnDone}
-use Rattle.infer_ctx.specs.Context as context
-use Rattle.infer_ctx.specs.Found as found
-use Rattle.infer_ctx.specs.Asked.{IsTold}
-use Rattle.infer_ctx.proofs.Asked.{told_same, told_with, told_beside}
-use Rattle.infer_ctx.proofs.Expressions.{told_entered}
-use Rattle.infer_ctx.proofs.AtEach.{follows_itself, closes_before}
-use Rattle.infer_ctx.proofs.UnderClosings.{same_found, closes_same, closes_earlier, pat_ty_under, bound_by_under, of_body_pat_ty, of_body_bound_by, sound_pat_ty, sound_bound_by, sound_entered}
-use Rattle.infer_ctx.proofs.OverTypes.{fine_closed}
-use Rattle.infer_ctx.proofs.Lists.{At-set_cases}
-use Rattle.infer_ctx.proofs.Parts.{binding_id}
-use Rattle.infer_ctx.proofs.FineTypes.{fine_grown}
-use Rattle.infer_coerce.specs.Coercions.{IsCoerced}
-use Rattle.infer_pat.specs.Patterns.{BeforePat, PatDone, IsGivenOrNew, ComesToPat, PatWalked, IsLitPatOf}
+use Rattle.infer_pat.specs.Words.{Ty, Assignment, folded, BindingId, PatId, ExprId, Schedule, IsCarriedType, Binds, binding_of, stays_itself, IsOfBody, Given, expected_under, Closes, found_under, InferenceContext, Found, TellsBound, TellsRecorded, TellsBinding, Follows, Before, OwnDone, IsTold, IsCoerced}
+use Rattle.infer_pat.specs.Words.hir_raw.declared.raw.RawPat.TheVariants as pat
+use Rattle.infer_pat.proofs.Words.{grew_twice, grew_itself, told_same, told_with, told_beside, told_entered, follows_itself, closes_before, same_found, closes_same, closes_earlier, pat_ty_under, bound_by_under, of_body_pat_ty, of_body_bound_by, sound_pat_ty, sound_bound_by, sound_entered, fine_closed, At-set_cases, binding_id, fine_grown}
+use Rattle.infer_pat.specs.Words.infer_ctx.Context as context
+use Rattle.infer_pat.specs.Words.infer_ctx.Found as found
+use Rattle.infer_pat.specs.Own.{BeforePat, PatDone, IsGivenOrNew, ComesToPat, PatWalked, IsLitPatOf}
 use Rattle.infer_pat.proofs.PatSteps.{before_pat_under}
 use Rattle.infer_pat.proofs.Pats.{wild_done, bind_done, IsFitted, lit_before, lit_done}
 

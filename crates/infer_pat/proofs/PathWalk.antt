@@ -2,61 +2,16 @@
 use Rattle.std.proofs.Common.{◌≡◌, refl, subst, ◌∙◌, ap, Option, Some, slice_get, inl, inr, arith, true, false, sym, option_and_then, None, length, option_map, ℕ, List, map, [], ◌+◌, ◌∷◌, ◌++◌}
 use Rattle.std.proofs.lemmas.Bool.{eq-eqb}
 use Rattle.std.proofs.lemmas.List.{length-map, map-append}
-use Rattle.hir_types.specs.declared.ids.ExprId.{ExprId}
-use Rattle.hir_types.specs.declared.ids.VariantId.{VariantId}
-use Rattle.hir_types.specs.declared.ty.Ty.{Ty}
-use Rattle.hir_types.specs.Subst.{folded, Assignment}
-use Rattle.hir_types.specs.declared.ids.BindingId.{BindingId}
-use Rattle.hir_types.specs.declared.ids.FunctionId.{FunctionId}
-use Rattle.hir_types.specs.declared.ids.CallableDefId.{CallableDefId}
-use Rattle.hir_types.specs.declared.ty.GenericArg.{GenericArg}
+use Rattle.infer_pat.specs.Words.{ExprId, VariantId, Ty, folded, Assignment, BindingId, FunctionId, CallableDefId, GenericArg, RawPath, Schedule, IsCarriedType, RawAdt, RawFn, RawType, RawVariant, has_params, callable_params, fn_arity, variant_arity, adt_params, Scope, type_args, Signature, signature_of, ctor_type, State, hole_count, stays_itself, InferenceResult, HasTy, ExprVariant, BindingTy, Given, IsVariantAt, IsCtorAt, PathRule, IsOfBody, Extends, Found, IsInside, KindWalked, IsItem, IsVariant, InferenceContext, Closes, found_under, expected_under, IsSound, Within, KindDone, ArePartTypes, TellsRecorded, item_params, IsFine, AllFine}
 use Rattle.hir_types.specs.declared.ids.CallableDefId.TheVariants as callable
 use Rattle.hir_types.specs.declared.ty.Ty.TheVariants as ty
 use Rattle.hir_types.specs.declared.head.HoleKind.TheVariants as kind
 use Rattle.hir_types.specs.declared.ty.GenericArg.TheVariants as arg
-use Rattle.hir_raw.specs.declared.raw.RawPath.{RawPath}
-use Rattle.hir_raw.specs.declared.schedule.Schedule.{Schedule}
-use Rattle.hir_facts.specs.CarriedTypes.{IsCarriedType}
-use Rattle.hir_raw.specs.declared.raw.RawAdt.{RawAdt}
-use Rattle.hir_raw.specs.declared.raw.RawFn.{RawFn}
-use Rattle.hir_raw.specs.declared.raw.RawType.{RawType}
-use Rattle.hir_raw.specs.declared.raw.RawVariant.{RawVariant}
-use Rattle.hir_raw.specs.Scope.{has_params, callable_params, fn_arity, variant_arity, adt_params, Scope}
-use Rattle.hir_raw.specs.Signatures.{type_args, Signature, signature_of, ctor_type}
-use Rattle.hir_raw.specs.declared.raw.RawPath.TheVariants as path
-use Rattle.hir_raw.specs.declared.raw.RawExpr.TheVariants as expr
-use Rattle.hir_raw.specs.declared.raw.RawCtor.TheVariants as ctor
-use Rattle.infer_table.proofs.UndoLaws.{grew_itself}
-use Rattle.infer_table.specs.Table.{State, hole_count}
-use Rattle.infer_ctx.specs.Below.{stays_itself}
-use Rattle.infer_result.specs.declared.result.InferenceResult.{InferenceResult}
-use Rattle.infer_result.specs.Table.{HasTy, ExprVariant, BindingTy}
-use Rattle.infer_result.specs.Places.{Given}
-use Rattle.infer_result.specs.Kinds.Constructor.{IsVariantAt, IsCtorAt}
-use Rattle.infer_result.specs.Kinds.Path.{PathRule}
-use Rattle.infer_result.specs.Closed.{IsOfBody}
-use Rattle.infer_result.proofs.Derived.{ctor_type_of_unit, ctor_type_of_tuple}
-use Rattle.infer_ctx.specs.Walks.{Extends}
-use Rattle.infer_ctx.specs.Found.{Found}
-use Rattle.infer_ctx.specs.Under.{IsInside, KindWalked, IsItem, IsVariant}
-use Rattle.infer_ctx.specs.declared.context.InferenceContext.{InferenceContext}
-use Rattle.infer_ctx.specs.Closings.{Closes, found_under, expected_under, IsSound}
-use Rattle.infer_ctx.specs.Steps.{Within, KindDone, ArePartTypes}
-use Rattle.infer_ctx.specs.Tells.{TellsRecorded}
-use Rattle.infer_ctx.specs.Fine.{item_params, IsFine, AllFine}
-use Rattle.infer_ctx.proofs.Parts.{expr_ahead}
-use Rattle.infer_ctx.proofs.Variants.{expr_named}
-use Rattle.infer_ctx.proofs.Leaves.{rule_of, leaf_done}
-use Rattle.infer_ctx.proofs.Carried.{carried_expr}
-use Rattle.infer_ctx.proofs.UnderClosings.{same_found, closes_earlier, At-unclosed, At-closed}
-use Rattle.infer_ctx.proofs.OverTypes.{fine_closed, fn_def_closed, adt_closed}
-use Rattle.infer_ctx.proofs.Asked.{told_same}
-use Rattle.infer_ctx.proofs.AtEach.{within_under}
-use Rattle.infer_ctx.proofs.Tellings.{local_tells, function_tells, ctor_tells}
-use Rattle.infer_ctx.proofs.FineTypes.{every_from, fine_fn_def, fine_adt}
-use Rattle.infer_ctx.proofs.Items.{tuple_signature}
-use Rattle.infer_coerce.proofs.Holes.{holed}
-use Rattle.infer_pat.specs.Paths.{IsPathType, NamesTyped, PathDone, AreFreshArgs}
+use Rattle.infer_pat.specs.Words.hir_raw.declared.raw.RawPath.TheVariants as path
+use Rattle.infer_pat.specs.Words.hir_raw.declared.raw.RawExpr.TheVariants as expr
+use Rattle.infer_pat.specs.Words.hir_raw.declared.raw.RawCtor.TheVariants as ctor
+use Rattle.infer_pat.proofs.Words.{grew_itself, ctor_type_of_unit, ctor_type_of_tuple, expr_ahead, expr_named, rule_of, leaf_done, carried_expr, same_found, closes_earlier, At-unclosed, At-closed, fine_closed, fn_def_closed, adt_closed, told_same, within_under, local_tells, function_tells, ctor_tells, every_from, fine_fn_def, fine_adt, tuple_signature, holed}
+use Rattle.infer_pat.specs.Own.{IsPathType, NamesTyped, PathDone, AreFreshArgs}
 use Rattle.infer_pat.proofs.PatHoles.{no_part_yet, one_part_more, new_one}
 
 path_rule : (g : Given) (r q : InferenceResult) (e : ExprId) (p : RawPath) (t : Ty) → Extends r q → HasTy q e t → ((v : VariantId) → p ≡ path.Ctor v → ExprVariant r e v) → IsPathType g r p t → PathRule g q e p

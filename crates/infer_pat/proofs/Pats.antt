@@ -1,31 +1,12 @@
 -- Patterns that bind a name or nothing, and literals.
 use Rattle.std.specs.Option.{option_and_then}
 use Rattle.std.proofs.Common.{◌≡◌, sym, subst, Some, slice_get, inl, refl, Option, None, ◌+◌, [], ap, ◌∙◌, arith, Bool, ◌<◌, ◌⊎◌, inr, true, false, ◌∷◌, length}
-use Rattle.hir_types.specs.declared.ids.PatId.{PatId}
-use Rattle.hir_types.specs.declared.ty.Ty.{Ty}
-use Rattle.hir_types.specs.declared.ids.BindingId.{BindingId}
-use Rattle.hir_types.specs.declared.ids.ExprId.{ExprId}
+use Rattle.infer_pat.specs.Words.{PatId, Ty, BindingId, ExprId, RawPat, Schedule, IsCarriedType, same_carried, after, binding_of, pat_parts, inner, expr_part, pattern_literal, part_at, parts_of_pat, InferenceResult, Given, MisfitsAs, Demand, PatRule, PatTy, HasTy, HasMismatch, mismatch, Found, with_pat_ty, with_mismatch, pat_end, Walks, Nothing, expr_end, IsCarriedExpectation, LieAhead, ComesTo, OwnWalked, IsCoercedIf}
 use Rattle.hir_types.specs.declared.ids.ExprOrPatId.TheVariants as node
-use Rattle.hir_raw.specs.declared.raw.RawPat.{RawPat}
-use Rattle.hir_raw.specs.declared.schedule.Schedule.{Schedule}
-use Rattle.hir_facts.specs.CarriedTypes.{IsCarriedType, same_carried}
-use Rattle.hir_raw.specs.Order.{after, binding_of, pat_parts, inner, expr_part, pattern_literal, part_at, parts_of_pat}
-use Rattle.hir_raw.specs.declared.raw.RawPat.TheVariants as pat
-use Rattle.infer_result.specs.declared.result.InferenceResult.{InferenceResult}
-use Rattle.infer_result.specs.Places.{Given, MisfitsAs}
-use Rattle.infer_result.specs.Demands.{Demand}
-use Rattle.infer_result.specs.Rules.{PatRule}
-use Rattle.infer_result.specs.Table.{PatTy, HasTy, HasMismatch, mismatch}
-use Rattle.infer_ctx.specs.Found.{Found, entered, with_pat_ty, bound_by, with_mismatch}
-use Rattle.infer_ctx.specs.Walks.{pat_end, Walks, Nothing, expr_end}
-use Rattle.infer_ctx.specs.Context.{IsCarriedExpectation}
-use Rattle.infer_ctx.specs.Under.{LieAhead, ComesTo, OwnWalked}
-use Rattle.infer_ctx.proofs.Parts.{pat_ahead, expr_before}
-use Rattle.infer_ctx.proofs.Keeps.{incoming_kept}
-use Rattle.infer_ctx.proofs.Noted.{noted_walks, noted_has}
-use Rattle.infer_coerce.specs.Coercions.{IsCoercedIf}
-use Rattle.infer_coerce.proofs.Coercions.{owed_paid}
-use Rattle.infer_pat.specs.Patterns.{IsPatPlaced, ComesToPat, PatWalked, IsLitPatOf}
+use Rattle.infer_pat.specs.Words.hir_raw.declared.raw.RawPat.TheVariants as pat
+use Rattle.infer_pat.specs.Words.infer_ctx.Found.{entered, bound_by}
+use Rattle.infer_pat.proofs.Words.{pat_ahead, expr_before, incoming_kept, noted_walks, noted_has, owed_paid}
+use Rattle.infer_pat.specs.Own.{IsPatPlaced, ComesToPat, PatWalked, IsLitPatOf}
 use Rattle.infer_pat.proofs.PatSteps.{enters_now, enters_done, IsBoundBy, IsRecordable, has_type, has_mode, has_binding, recorded_walked, enters_recorded, pat_entered, own_free, enters_more, open_walked}
 
 -- what holds of a pattern of this kind

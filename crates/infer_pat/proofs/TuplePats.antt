@@ -3,38 +3,18 @@ use Rattle.std.proofs.Common.{ℕ, ◌≡◌, List, take, drop, arith, Option, �
 use Rattle.std.proofs.Math.ListN.{drop_of_length-le, take-append-drop}
 use Rattle.std.proofs.lemmas.List.{take_more, length-map}
 use Rattle.std.proofs.lemmas.Option.{slice_get-get_or, slice_get_within, slice_get-map}
-use Rattle.hir_types.specs.declared.ids.PatId.{PatId}
-use Rattle.hir_types.specs.declared.ty.Ty.{Ty}
-use Rattle.hir_raw.specs.declared.schedule.Schedule.{Schedule}
-use Rattle.hir_facts.specs.CarriedTypes.{AreCarriedTypes}
-use Rattle.infer_result.specs.Table.{PatTy}
-use Rattle.infer_result.specs.Places.{Given, PatIsAtOrMismatch}
-use Rattle.infer_result.specs.Pats.Tuple.{AllPatsAt}
-use Rattle.infer_result.specs.declared.result.InferenceResult.{InferenceResult}
-use Rattle.infer_ctx.proofs.Keeps.{all_pats_kept, pat_at_kept}
-use Rattle.infer_ctx.proofs.Types.{carried_tuple_of}
-use Rattle.infer_pat.specs.Patterns.{AreTupleParts, HandsParts, ComesToPat, IsTuplePatOf, IsPatPlaced, BeforePat, PatDemanded, PatIsDemanded, PatDone}
+use Rattle.infer_pat.specs.Words.{PatId, Ty, Schedule, AreCarriedTypes, PatTy, Given, PatIsAtOrMismatch, AllPatsAt, InferenceResult, Assignment, folded, SaysItsType, InferenceContext, Closes, found_under, expected_under, IsTold, IsFine, AllFine}
+use Rattle.infer_pat.proofs.Words.{all_pats_kept, pat_at_kept, carried_tuple_of, grew_twice, told_same, told_entered, closes_before, follows_twice, same_found, closes_earlier, all_fine_grown, every_at, every_from}
+use Rattle.infer_pat.specs.Own.{AreTupleParts, HandsParts, ComesToPat, IsTuplePatOf, IsPatPlaced, BeforePat, PatDemanded, PatIsDemanded, PatDone}
 use Rattle.infer_pat.proofs.PatDemands.{Demands, entered_opening, pat_demanded}
 use Rattle.infer_pat.proofs.PatSteps.{enters_more, enters_done, before_pat_under}
 use Rattle.infer_pat.proofs.Pats.{pat_rule_of}
-use Rattle.hir_types.specs.Subst.{Assignment, folded}
-use Rattle.infer_table.proofs.HoleLaws.{grew_twice}
-use Rattle.infer_result.specs.Truth.Mismatch.{SaysItsType}
-use Rattle.infer_ctx.specs.declared.context.InferenceContext.{InferenceContext}
-use Rattle.infer_ctx.specs.Closings.{Closes, found_under, expected_under}
-use Rattle.infer_ctx.specs.Asked.{IsTold}
-use Rattle.infer_ctx.proofs.Asked.{told_same}
-use Rattle.infer_ctx.proofs.Expressions.{told_entered}
-use Rattle.infer_ctx.proofs.AtEach.{closes_before, follows_twice}
-use Rattle.infer_ctx.proofs.UnderClosings.{same_found, closes_earlier}
-use Rattle.infer_ctx.specs.Fine.{IsFine, AllFine}
-use Rattle.infer_ctx.proofs.FineTypes.{all_fine_grown, every_at, every_from}
 use Rattle.infer_pat.proofs.PatHoles.{carried_each, tuple_under}
 use Rattle.infer_pat.proofs.PatParts.{AtPat, begins_pats, comes_to_pat, past_pat, pats_past}
 use Rattle.hir_types.specs.declared.ty.Ty.TheVariants as ty
-use Rattle.hir_raw.specs.declared.raw.RawPat.TheVariants as pat
-use Rattle.infer_ctx.specs.Context as context
-use Rattle.infer_ctx.specs.Found as found
+use Rattle.infer_pat.specs.Words.hir_raw.declared.raw.RawPat.TheVariants as pat
+use Rattle.infer_pat.specs.Words.infer_ctx.Context as context
+use Rattle.infer_pat.specs.Words.infer_ctx.Found as found
 
 -- the tuple of ts is asked of what comes into the pattern p, of which ps are the parts
 pub record TuplePatBegun (g : Given) (s : Schedule) (p : PatId) (ps : List PatId) (ts : List Ty) (x : Option Ty) (old mid : InferenceContext) : Type 0 where

@@ -1,3 +1,5 @@
 pub mod Paths
 pub mod Patterns
 pub mod Literals
+pub mod Words
+pub mod Own

@@ -1,26 +1,11 @@
 -- What a literal is given and gives.
 use Rattle.std.specs.Prelude.{◌≡◌, Option, Some, None, unwrap_or}
 use Rattle.std.specs.Option.{option_and_then}
-use Rattle.hir_types.specs.declared.ty.IntegerTy.{IntegerTy}
-use Rattle.hir_types.specs.declared.ty.Ty.{Ty, Ty-F, out-Ty}
-use Rattle.hir_types.specs.declared.ty.AliasBound.{AliasBound}
-use Rattle.hir_types.specs.declared.ty.GenericArg.{GenericArg}
-use Rattle.hir_types.specs.declared.ty.TraitRef.{TraitRef}
-use Rattle.hir_types.specs.Types.{integer_type}
-use Rattle.hir_types.specs.Subst.{Assignment, folded}
+use Rattle.infer_pat.specs.Words.{IntegerTy, Ty, Ty-F, out-Ty, AliasBound, GenericArg, TraitRef, integer_type, Assignment, folded, Scope, RawExpr, RawLiteral, State, resolved_type, Grew, hole_count, StaysButHoles, IsLiteralType, IsOwnType, InferenceContext, IsFine, IsClosing, IsSound}
 use Rattle.hir_types.specs.declared.ty.Ty.TheVariants as ty
 use Rattle.hir_types.specs.declared.ty.UintTy.TheVariants as uint
-use Rattle.hir_raw.specs.Scope.{Scope}
-use Rattle.hir_raw.specs.declared.raw.RawExpr.{RawExpr}
-use Rattle.hir_raw.specs.declared.raw.RawExpr.TheVariants as expr
-use Rattle.hir_raw.specs.declared.raw.RawLiteral.{RawLiteral}
-use Rattle.hir_raw.specs.declared.raw.RawLiteral.TheVariants as literal
-use Rattle.infer_table.specs.Table.{State, resolved_type, Grew, hole_count}
-use Rattle.infer_ctx.specs.Below.{StaysButHoles}
-use Rattle.infer_result.specs.Kinds.Literal.{IsLiteralType, IsOwnType}
-use Rattle.infer_ctx.specs.declared.context.InferenceContext.{InferenceContext}
-use Rattle.infer_ctx.specs.Fine.{IsFine}
-use Rattle.infer_ctx.specs.Closings.{IsClosing, IsSound}
+use Rattle.infer_pat.specs.Words.hir_raw.declared.raw.RawExpr.TheVariants as expr
+use Rattle.infer_pat.specs.Words.hir_raw.declared.raw.RawLiteral.TheVariants as literal
 
 -- ---- literals
 

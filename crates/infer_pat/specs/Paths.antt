@@ -1,28 +1,10 @@
 -- What a path is given and gives.
 use Rattle.std.specs.Prelude.{◌≡◌, List, length, Some, slice_get, ℕ}
-use Rattle.hir_types.specs.declared.ty.Ty.{Ty}
-use Rattle.hir_types.specs.declared.ids.ExprId.{ExprId}
-use Rattle.hir_types.specs.Subst.{Assignment, folded}
-use Rattle.hir_types.specs.declared.ty.GenericArg.{GenericArg}
+use Rattle.infer_pat.specs.Words.{Ty, ExprId, Assignment, folded, GenericArg, RawPath, callable_params, Scope, type_args, Grew, StaysButHoles, InferenceResult, BindingTy, Given, IsCtorPath, IsVariant, IsItem, InferenceContext, IsFine, Tells, Closes, closed_table, IsSound, ArePartTypes}
 use Rattle.hir_types.specs.declared.ids.CallableDefId.TheVariants as callable
 use Rattle.hir_types.specs.declared.ty.Ty.TheVariants as ty
-use Rattle.hir_raw.specs.declared.raw.RawPath.{RawPath}
-use Rattle.hir_raw.specs.Scope.{callable_params, Scope}
-use Rattle.hir_raw.specs.Signatures.{type_args}
-use Rattle.hir_raw.specs.declared.raw.RawPath.TheVariants as path
-use Rattle.hir_raw.specs.declared.raw.RawExpr.TheVariants as expr
-use Rattle.infer_table.specs.Table.{Grew}
-use Rattle.infer_ctx.specs.Below.{StaysButHoles}
-use Rattle.infer_result.specs.declared.result.InferenceResult.{InferenceResult}
-use Rattle.infer_result.specs.Table.{BindingTy}
-use Rattle.infer_result.specs.Places.{Given}
-use Rattle.infer_result.specs.Kinds.Constructor.{IsCtorPath}
-use Rattle.infer_ctx.specs.Under.{IsVariant, IsItem}
-use Rattle.infer_ctx.specs.declared.context.InferenceContext.{InferenceContext}
-use Rattle.infer_ctx.specs.Fine.{IsFine}
-use Rattle.infer_ctx.specs.Tells.{Tells}
-use Rattle.infer_ctx.specs.Closings.{Closes, closed_table, IsSound}
-use Rattle.infer_ctx.specs.Steps.{ArePartTypes}
+use Rattle.infer_pat.specs.Words.hir_raw.declared.raw.RawPath.TheVariants as path
+use Rattle.infer_pat.specs.Words.hir_raw.declared.raw.RawExpr.TheVariants as expr
 
 -- the path names a local of this type, or a function or a constructor at as many types as it has parameters
 abbrev pub IsPathType : Given → InferenceResult → RawPath → Ty → Type 0

@@ -1,38 +1,14 @@
 -- What the walk over a pattern is given, and what it does.
 use Rattle.std.specs.Prelude.{◌<◌, ◌≡◌, length, Option, Some, None, ◌⊎◌, ℕ, List, [], ◌∷◌, ◌++◌, slice_get, map}
-use Rattle.hir_types.specs.declared.ids.PatId.{PatId}
-use Rattle.hir_types.specs.declared.ty.Ty.{Ty}
-use Rattle.hir_types.specs.declared.ids.VariantId.{VariantId}
-use Rattle.hir_types.specs.declared.ids.ExprId.{ExprId}
-use Rattle.hir_types.specs.Subst.{Assignment, folded}
+use Rattle.infer_pat.specs.Words.{PatId, Ty, VariantId, ExprId, Assignment, folded, Schedule, RawBody, RawPath, Scope, variant_arity, type_args, at_args, ctor_item, taken_types, IsOpenOrKnown, State, Grew, bindings, hole_count, resolved_type, with_new_hole, StaysButHoles, Given, PatIsAtOrMismatch, Incoming, InferenceResult, PatTy, mismatch, Found, with_pat_ty, IsCarriedExpectation, element_type, entered, with_pat_diagnostic, IsWalked, pat_start, Walks, Nothing, pat_end, IsReady, IsVariant, InferenceContext, IsFineExpectation, IsFine, TellsBound, Closes, closed_table, expected_under, found_under, IsSound, IsWalking, Follows, ArePartTypes, Does, ReadsPat}
 use Rattle.hir_types.specs.declared.ids.ExprOrPatId.TheVariants as node
 use Rattle.hir_types.specs.declared.head.HoleKind.TheVariants as kind
 use Rattle.hir_types.specs.declared.ty.Ty.TheVariants as ty
-use Rattle.hir_raw.specs.declared.schedule.Schedule.{Schedule}
-use Rattle.hir_raw.specs.declared.raw.RawBody.{RawBody}
-use Rattle.hir_raw.specs.declared.raw.RawPath.{RawPath}
-use Rattle.hir_raw.specs.Scope.{Scope, variant_arity}
-use Rattle.hir_raw.specs.Signatures.{type_args, at_args, ctor_item, taken_types}
-use Rattle.hir_raw.specs.declared.raw.RawPat.TheVariants as pat
-use Rattle.infer_table.specs.Resolution.{IsOpenOrKnown}
-use Rattle.infer_table.specs.Table.{State, Grew, bindings, hole_count, resolved_type, with_new_hole}
-use Rattle.infer_ctx.specs.Below.{StaysButHoles}
-use Rattle.infer_result.specs.Places.{Given, PatIsAtOrMismatch}
-use Rattle.infer_result.specs.Incoming.{Incoming}
-use Rattle.infer_result.specs.declared.result.InferenceResult.{InferenceResult}
-use Rattle.infer_result.specs.Table.{PatTy, mismatch}
-use Rattle.infer_result.specs.declared.diagnostics.InferenceDiagnostic.TheVariants as diagnostic
-use Rattle.infer_ctx.specs.Found.{Found, with_pat_mismatch, with_pat_ty}
-use Rattle.infer_ctx.specs.Context.{IsCarriedExpectation, element_type, entered, with_pat_diagnostic, with_pat_item}
-use Rattle.infer_ctx.specs.Walks.{IsWalked, pat_start, Walks, Nothing, pat_end}
-use Rattle.infer_ctx.specs.Under.{IsReady, IsVariant}
-use Rattle.infer_ctx.specs.declared.context.InferenceContext.{InferenceContext}
-use Rattle.infer_ctx.specs.Fine.{IsFineExpectation, IsFine}
-use Rattle.infer_ctx.specs.Tells.{TellsBound}
-use Rattle.infer_ctx.specs.Closings.{Closes, closed_table, expected_under, found_under, IsSound}
-use Rattle.infer_ctx.specs.Steps.{IsWalking, Follows, ArePartTypes, Does}
-use Rattle.infer_ctx.specs.Found as findings
-use Rattle.infer_obligations.specs.Reading.{ReadsPat}
+use Rattle.infer_pat.specs.Words.hir_raw.declared.raw.RawPat.TheVariants as pat
+use Rattle.infer_pat.specs.Words.infer_result.declared.diagnostics.InferenceDiagnostic.TheVariants as diagnostic
+use Rattle.infer_pat.specs.Words.infer_ctx.Found.{with_pat_mismatch}
+use Rattle.infer_pat.specs.Words.infer_ctx.Context.{with_pat_item}
+use Rattle.infer_pat.specs.Words.infer_ctx.Found as findings
 
 -- ---- patterns
 

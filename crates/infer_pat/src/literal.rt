@@ -1,14 +1,10 @@
 //! The types of literals.
 ghost use Rattle.std.specs.Prelude.{◌≡◌, IsTrue, IfOk, slice_get};
-ghost use Rattle.hir_facts.specs.Carried.{is_carried_literal};
-ghost use Rattle.hir_facts.specs.Literals.{IsLiteral};
-ghost use Rattle.infer_ctx.specs.Closings.{IsSound};
-ghost use Rattle.infer_ctx.specs.Context.{given_of, schedule_of, expected_type, scope_in};
-ghost use Rattle.infer_ctx.specs.Steps.{Within, KindDone};
-ghost use Rattle.infer_pat.specs.Literals.{LiteralDone, IntDone, expected_integer, integer_for, literal_type_at};
+ghost use Rattle.infer_pat.specs.Words.{is_carried_literal, IsLiteral, IsSound, given_of, schedule_of, expected_type, scope_in, Within, KindDone};
+ghost use Rattle.infer_pat.specs.Own.{LiteralDone, IntDone, expected_integer, integer_for, literal_type_at};
 
-use hir_facts::{ExprId, RawExpr, RawLiteral, Ty, UintTy};
-use infer_ctx::{Expectation, GivenBody, InferenceContext};
+use infer_obligations::hir_facts::{ExprId, RawExpr, RawLiteral, Ty, UintTy};
+use infer_obligations::infer_ctx::{Expectation, GivenBody, InferenceContext};
 use std::alloc::AllocError;
 
 /// The type of an expression that is a literal: `infer/expr.rs`, `infer_expr_inner` at `Expr::Literal`.

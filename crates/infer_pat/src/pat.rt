@@ -1,24 +1,19 @@
 //! The types of patterns.
 ghost use Rattle.std.specs.Prelude.{◌≡◌, ◌<◌, IfOk, Some, length, slice_get};
-ghost use Rattle.hir_types.specs.declared.ty.Ty.{Ty};
+ghost use Rattle.infer_pat.specs.Words.{Ty, IsOfBody, given_of, scope_in, schedule_of, expected_type, bound_by, IsSound, IsFine, IsFineExpectation, IsVariant, Before, OwnDone, IsLiteral};
 ghost use Rattle.hir_types.specs.declared.ty.Ty.TheVariants as ty;
-ghost use Rattle.infer_result.specs.Closed.{IsOfBody};
-ghost use Rattle.infer_ctx.specs.Context.{given_of, scope_in, schedule_of, expected_type, bound_by};
-ghost use Rattle.infer_ctx.specs.Closings.{IsSound};
-ghost use Rattle.infer_ctx.specs.Fine.{IsFine, IsFineExpectation};
-ghost use Rattle.infer_pat.specs.Patterns.{IsTuplePatOf, IsCtorPatOf, IsPathPatOf, IsLitPatOf, BeforePat, PatDone, IsGivenOrNew, IsComponentOf, AreTupleParts, HandsParts, PatDemanded, PartsCounted, CtorDemanded};
-ghost use Rattle.infer_ctx.specs.Under.{IsVariant};
-ghost use Rattle.infer_ctx.specs.Steps.{Before, OwnDone};
-ghost use Rattle.hir_facts.specs.Literals.{IsLiteral};
+ghost use Rattle.infer_pat.specs.Own.{IsTuplePatOf, IsCtorPatOf, IsPathPatOf, IsLitPatOf, BeforePat, PatDone, IsGivenOrNew, IsComponentOf, AreTupleParts, HandsParts, PatDemanded, PartsCounted, CtorDemanded};
 
 use crate::literal::infer_literal;
 use crate::path::{fresh_args_for_item, infer_expr_path};
-use hir_facts::{BindingId, ExprId, List, PatId, RawPat, RawPath, Ty, VariantId, variant_arity};
 use hir_types::{CallableDefId, ExprOrPatId};
-use infer_coerce::{copies, demand_coerce, unify};
-use infer_ctx::{Expectation, GivenBody, InferenceContext, first_args};
+use infer_obligations::hir_facts::{
+    BindingId, ExprId, List, PatId, RawPat, RawPath, Ty, VariantId, variant_arity,
+};
+use infer_obligations::infer_coerce::{copies, demand_coerce, unify};
+use infer_obligations::infer_ctx::{Expectation, GivenBody, InferenceContext, first_args};
+use infer_obligations::infer_result::{BindingMode, InferenceDiagnostic, TypeMismatch};
 use infer_obligations::read_pat;
-use infer_result::{BindingMode, InferenceDiagnostic, TypeMismatch};
 use std::alloc::{AllocError, Global};
 
 /// Types a pattern that stands by itself, into which a value of this type comes:

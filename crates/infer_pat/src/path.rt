@@ -1,16 +1,14 @@
 //! The types of paths.
 ghost use Rattle.std.specs.Prelude.{IfOk};
-ghost use Rattle.hir_raw.specs.declared.raw.RawPath.TheVariants as path;
-ghost use Rattle.infer_result.specs.Closed.{IsOfBody};
-ghost use Rattle.infer_ctx.specs.Closings.{IsSound};
-ghost use Rattle.infer_ctx.specs.Context.{given_of, scope_in};
-ghost use Rattle.infer_ctx.specs.Tells.{TellsRecorded};
-ghost use Rattle.infer_pat.specs.Paths.{NamesTyped, PathDone, AreFreshArgs};
-ghost use Rattle.infer_ctx.specs.Under.{IsVariant};
+ghost use Rattle.infer_pat.specs.Words.hir_raw.declared.raw.RawPath.TheVariants as path;
+ghost use Rattle.infer_pat.specs.Words.{IsOfBody, IsSound, given_of, scope_in, TellsRecorded, IsVariant};
+ghost use Rattle.infer_pat.specs.Own.{NamesTyped, PathDone, AreFreshArgs};
 
-use hir_facts::{List, RawCtor, RawPath, Ty, VariantId, fn_arity, variant_arity};
 use hir_types::{CallableDefId, GenericArg};
-use infer_ctx::{GivenBody, InferenceContext};
+use infer_obligations::hir_facts::{
+    List, RawCtor, RawPath, Ty, VariantId, fn_arity, variant_arity,
+};
+use infer_obligations::infer_ctx::{GivenBody, InferenceContext};
 use std::alloc::{AllocError, Global};
 
 /// The type of a path: that of the local that it names, or of the function or the constructor at

@@ -1,9 +1,7 @@
 -- Generic arguments but the first, written one after another.
 use Rattle.std.proofs.Common.{◌≡◌, ◌∙◌, ◌++◌, ◌+◌, ◌<◌, List, [], ◌∷◌, map, length, ℕ, suc, ap, append_assoc, append-nil, arith, codes}
-use Rattle.hir_types.specs.declared.ty.GenericArg.{GenericArg}
-use Rattle.hir_raw.specs.declared.raw.RawFacts.{RawFacts}
-use Rattle.infer_result.specs.Report.{arg_text, joined, lines_from}
-use Rattle.infer_report.specs.LaterArgs.{later_arg_text, later_args_text}
+use Rattle.infer_report.specs.Words.{GenericArg, RawFacts, arg_text, joined, lines_from}
+use Rattle.infer_report.specs.Own.{later_arg_text, later_args_text}
 
 module _ (raw : RawFacts) where
   abbrev pub later_of : ℕ → GenericArg → List ℕ

@@ -3,7 +3,7 @@ use Rattle.std.specs.Prelude.{Result, Ok, Err, OnOk}
 use Rattle.std.specs.declared.alloc.AllocError.{AllocError}
 use Rattle.std.proofs.Common.{◌≡◌, ◌++◌, List, [], ◌∷◌, map, ℕ, ◌+◌, ◌<◌, ◌≤◌, length, take, drop, get_or, refl, sym, ap, ◌∙◌, append_assoc, add-one, drop-cons, arith, codes}
 use Rattle.std.proofs.lemmas.List.{map_more, length-take-le, length-map, drop_all, append-nil}
-use Rattle.infer_result.specs.Report.{joined, separator, lines_from}
+use Rattle.infer_report.specs.Words.{joined, separator, lines_from}
 
 push_joined : (xs : List (List ℕ)) (x : List ℕ) → joined (xs ++ x ∷ []) ≡ joined xs ++ separator (length xs) ++ x
 push_joined [] x = refl

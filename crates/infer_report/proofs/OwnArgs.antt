@@ -1,14 +1,8 @@
 -- The arguments of a function or of a constructor that are its own, written.
 use Rattle.std.proofs.Common.{◌≡◌, ◌∙◌, ◌++◌, ◌<◌, ◌≤◌, List, [], ◌∷◌, map, length, take, ℕ, zero, suc, refl, ap, sym, subst, arith, codes, append_assoc, Option, Some, None, slice_get}
 use Rattle.std.proofs.lemmas.List.{length-map}
-use Rattle.hir_types.specs.declared.ids.CallableDefId.{CallableDefId}
+use Rattle.infer_report.specs.Words.{CallableDefId, GenericArg, RawFacts, RawFn, RawVariant, adt_params, arg_text, joined, args_text, fn_own_count, adt_own_count, variant_own_count, own_count, own_args}
 use Rattle.hir_types.specs.declared.ids.CallableDefId.TheVariants as callable
-use Rattle.hir_types.specs.declared.ty.GenericArg.{GenericArg}
-use Rattle.hir_raw.specs.declared.raw.RawFacts.{RawFacts}
-use Rattle.hir_raw.specs.declared.raw.RawFn.{RawFn}
-use Rattle.hir_raw.specs.declared.raw.RawVariant.{RawVariant}
-use Rattle.hir_raw.specs.Scope.{adt_params}
-use Rattle.infer_result.specs.Report.{arg_text, joined, args_text, fn_own_count, adt_own_count, variant_own_count, own_count, own_args}
 
 take_mapped : {A B : Type 0} (f : A → B) (n : ℕ) (xs : List A) → take n (map f xs) ≡ map f (take n xs)
 take_mapped f zero xs = refl

@@ -1,27 +1,9 @@
 -- The text of each kind of type, from the texts of its parts.
 use Rattle.std.proofs.Common.{◌≡◌, ◌++◌, sym, ap, ◌∙◌, ℕ, List, map, Option, codes}
 use Rattle.std.specs.Fmt.{decimal}
-use Rattle.hir_types.specs.declared.ids.AdtId.{AdtId}
-use Rattle.hir_types.specs.declared.ids.CallableDefId.{CallableDefId}
-use Rattle.hir_types.specs.declared.ids.ClosureId.{ClosureId}
-use Rattle.hir_types.specs.declared.ids.OpaqueId.{OpaqueId}
-use Rattle.hir_types.specs.declared.ids.TraitId.{TraitId}
-use Rattle.hir_types.specs.declared.ids.TypeAliasId.{TypeAliasId}
-use Rattle.hir_types.specs.declared.ty.IntTy.{IntTy}
-use Rattle.hir_types.specs.declared.ty.UintTy.{UintTy}
-use Rattle.hir_types.specs.declared.ty.FloatTy.{FloatTy}
-use Rattle.hir_types.specs.declared.ty.Mutability.{Mutability}
-use Rattle.hir_types.specs.declared.ty.Safety.{Safety}
-use Rattle.hir_types.specs.declared.ty.Region.{Region}
-use Rattle.hir_types.specs.declared.ty.Const.{Const}
-use Rattle.hir_types.specs.declared.ty.GenericArg.{GenericArg, GenericArg-F, fold-roll-GenericArg}
+use Rattle.infer_report.specs.Words.{AdtId, CallableDefId, ClosureId, OpaqueId, TraitId, TypeAliasId, IntTy, UintTy, FloatTy, Mutability, Safety, Region, Const, GenericArg, GenericArg-F, fold-roll-GenericArg, TraitRef, AliasBound, Ty, Ty-F, fold-roll-Ty, RawFacts, int_text, uint_text, float_text, const_text, ref_text, ptr_text, label_text, safety_text, callable_text, tuple_text, joined, args_text, own_args, adt_text, projection_text, text_arg, text_step, text_bound, text_trait, arg_text, ty_text}
 use Rattle.hir_types.specs.declared.ty.GenericArg.TheVariants as arg
-use Rattle.hir_types.specs.declared.ty.TraitRef.{TraitRef}
-use Rattle.hir_types.specs.declared.ty.AliasBound.{AliasBound}
-use Rattle.hir_types.specs.declared.ty.Ty.{Ty, Ty-F, fold-roll-Ty}
 use Rattle.hir_types.specs.declared.ty.Ty.TheVariants as ty
-use Rattle.hir_raw.specs.declared.raw.RawFacts.{RawFacts}
-use Rattle.infer_result.specs.Report.{int_text, uint_text, float_text, const_text, ref_text, ptr_text, label_text, safety_text, callable_text, tuple_text, joined, args_text, own_args, adt_text, projection_text, text_arg, text_step, text_bound, text_trait, arg_text, ty_text}
 
 pub bool_text_is : (raw : RawFacts) → ty_text raw ty.Bool ≡ codes "bool"
 bool_text_is raw = ap (ty_text raw) (sym ty.rolls-Bool) ∙ fold-roll-Ty (List ℕ) (List ℕ) (List ℕ) (List ℕ) text_arg (text_step raw) text_bound text_trait Ty-F.Bool

@@ -1,6 +1,6 @@
 -- Generic arguments but the first, as they are written.
 use Rattle.std.specs.Prelude.{ℕ, zero, suc, List, [], ◌∷◌, ◌++◌, codes}
-use Rattle.infer_result.specs.Report.{args_text}
+use Rattle.infer_report.specs.Words.{args_text}
 
 -- those but the first; each with what stands before it
 abbrev pub later_args_text : List (List ℕ) → List ℕ

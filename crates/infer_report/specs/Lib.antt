@@ -1,1 +1,3 @@
 pub mod LaterArgs
+pub mod Words
+pub mod Own

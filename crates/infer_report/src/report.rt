@@ -1,12 +1,11 @@
 //! The report on a table.
 ghost use Rattle.std.specs.Prelude.{◌≡◌, ◌≤◌, ◌+◌, ◌^◌, ◌++◌, OnOk, IfOk, List, length, string_bytes, count_by, sum_by, is_some};
 ghost use Rattle.std.specs.Option.{option_copied};
-ghost use Rattle.infer_result.specs.Table.{recorded, gaps_at};
-ghost use Rattle.infer_result.specs.Report.{line, def_line, variant_text, expr_line, mode_text, pat_line, binding_line, mismatch_head, type_field, mismatch_line, node_text, counts_text, diagnostic_text, diagnostic_line, gap_text, gap_line, complaints, lines_from, complaint_count, report};
+ghost use Rattle.infer_report.specs.Words.{recorded, gaps_at, line, def_line, variant_text, expr_line, mode_text, pat_line, binding_line, mismatch_head, type_field, mismatch_line, node_text, counts_text, diagnostic_text, diagnostic_line, gap_text, gap_line, complaints, lines_from, complaint_count, report};
 
 use super::goals::push_goal;
 use super::types::{push_ty, push_type};
-use hir_facts::{DefWithBodyId, ExprOrPatId, Facts, List, RawFacts, Ty, VariantId};
+use infer_result::hir_facts::{DefWithBodyId, ExprOrPatId, Facts, List, RawFacts, Ty, VariantId};
 use infer_result::{
     BindingMode, Gap, InferenceDiagnostic, InferenceResult, Mutability, TypeMismatch,
 };
@@ -153,14 +152,14 @@ fn push_bindings(out: &mut String, facts: &RawFacts, types: &[Option<Ty>]) -> Re
     Ok(())
 }
 
-#[tactic(auto, unfolding(infer_result::specs::Report::mismatch_head))]
+#[tactic(auto, unfolding(crate::specs::Words::mismatch_head))]
 fn push_head(out: &mut String, letter: &str, at: usize) -> Result<(), AllocError>
     ensures { OnOk result (string_bytes out.new ≡ string_bytes out.old ++ mismatch_head letter.now at) }
 {
     write!(out, "TypeMismatch {letter}{at}")
 }
 
-#[tactic(auto, unfolding(infer_result::specs::Report::type_field))]
+#[tactic(auto, unfolding(crate::specs::Words::type_field))]
 fn push_field(out: &mut String, facts: &RawFacts, name: &str, ty: &Ty) -> Result<(), AllocError>
     ensures { OnOk result (string_bytes out.new ≡ string_bytes out.old ++ type_field facts.now name.now ty.now) }
 {
@@ -188,7 +187,7 @@ fn push_mismatch(
     }
 }
 
-#[tactic(auto, unfolding(infer_result::specs::Report::node_text))]
+#[tactic(auto, unfolding(crate::specs::Words::node_text))]
 fn push_node(out: &mut String, node: ExprOrPatId) -> Result<(), AllocError>
     ensures { OnOk result (string_bytes out.new ≡ string_bytes out.old ++ node_text node) }
 {
@@ -204,14 +203,14 @@ fn push_node(out: &mut String, node: ExprOrPatId) -> Result<(), AllocError>
     }
 }
 
-#[tactic(auto, unfolding(infer_result::specs::Report::counts_text))]
+#[tactic(auto, unfolding(crate::specs::Words::counts_text))]
 fn push_counts(out: &mut String, expected: usize, found: usize) -> Result<(), AllocError>
     ensures { OnOk result (string_bytes out.new ≡ string_bytes out.old ++ counts_text expected found) }
 {
     write!(out, " expected={expected} found={found}")
 }
 
-#[tactic(auto, unfolding(infer_result::specs::Report::diagnostic_text))]
+#[tactic(auto, unfolding(crate::specs::Words::diagnostic_text))]
 fn push_diagnostic_text(
     out: &mut String,
     facts: &RawFacts,
@@ -271,7 +270,7 @@ fn diagnostic_at(
     diagnostics.get(at)?.as_ref()
 }
 
-#[tactic(auto, unfolding(infer_result::specs::Report::gap_text))]
+#[tactic(auto, unfolding(crate::specs::Words::gap_text))]
 fn push_gap_text(out: &mut String, facts: &RawFacts, gap: &Gap) -> Result<(), AllocError>
     ensures { OnOk result (string_bytes out.new ≡ string_bytes out.old ++ gap_text facts.now gap.now) }
 {

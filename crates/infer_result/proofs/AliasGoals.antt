@@ -2,10 +2,8 @@
 use Rattle.std.specs.Prelude.{◌≡◌, ◌<◌, ◌≤◌, ℕ, suc, ◌+◌, List, ◌++◌, length, get_or, drop, slice_get}
 use Rattle.std.proofs.Common.{arith, ap, sym, ◌∙◌, append_assoc, append-nil}
 use Rattle.std.proofs.lemmas.List.{drop_more, drop_all}
-use Rattle.hir_types.specs.declared.ty.GenericArg.{GenericArg}
-use Rattle.hir_raw.specs.declared.raw.RawFacts.{RawFacts}
-use Rattle.goal_answers.specs.Goals.{Asked}
-use Rattle.infer_result.specs.AliasNeeds.{alias_goals_by, alias_goals_from}
+use Rattle.infer_result.specs.Words.{GenericArg, RawFacts, Asked}
+use Rattle.infer_result.specs.Own.{alias_goals_by, alias_goals_from}
 
 module _ (raw : RawFacts) (xs : List GenericArg) (n : ℕ) (ks : List ℕ) (all : List Asked) where
   -- these, and those from place i on, are all

@@ -1,27 +1,11 @@
 -- What follows of typed tables about calls.
 use Rattle.std.specs.Prelude.{ℕ, Bool, true, false, zero, suc, ◌≡◌, ◌<◌, List, [], ◌∷◌, map, length, slice_get, Option, Some}
 use Rattle.std.proofs.Common.{inl, inr, refl, sym, subst, ◌∙◌}
-use Rattle.hir_types.specs.declared.ids.ExprId.{ExprId}
+use Rattle.infer_result.specs.Words.{ExprId, Ty, Same, param_at, RawExpr, Signature, at_args}
 use Rattle.hir_types.specs.declared.ids.ExprOrPatId.TheVariants as node
-use Rattle.hir_types.specs.declared.ty.Ty.{Ty}
 use Rattle.hir_types.specs.declared.ty.Ty.TheVariants as ty
-use Rattle.hir_types.specs.Erasure.{Same}
-use Rattle.hir_types.specs.Instances.{param_at}
-use Rattle.hir_raw.specs.declared.raw.RawExpr.{RawExpr}
-use Rattle.hir_raw.specs.declared.raw.RawExpr.TheVariants as expr
-use Rattle.hir_raw.specs.Signatures.{Signature, at_args}
-use Rattle.infer_result.specs.declared.result.InferenceResult.{InferenceResult}
-use Rattle.infer_result.specs.declared.diagnostics.InferenceDiagnostic.{InferenceDiagnostic}
-use Rattle.infer_result.specs.Unknown.{has_unknown}
-use Rattle.infer_result.specs.Table.{HasTy, HasMismatch, HasDiagnostic, WasSeen}
-use Rattle.infer_result.specs.Places.{Given, IsAtOrMismatch}
-use Rattle.infer_result.specs.Kinds.Call.{IsCallee, ArgsRule, CallRule, IsPathToItem}
-use Rattle.infer_result.specs.Placing.{at_or_mismatch}
-use Rattle.infer_result.specs.Kinds.Tuple.{AllAt}
-use Rattle.infer_result.specs.Rules.{Rule}
-use Rattle.infer_result.specs.Truth.Seen.{IsTrueSeen}
-use Rattle.infer_result.specs.Upward.{Up}
-use Rattle.infer_result.specs.Typed.{IsTyped}
+use Rattle.infer_result.specs.Words.hir_raw.declared.raw.RawExpr.TheVariants as expr
+use Rattle.infer_result.specs.Own.{InferenceResult, InferenceDiagnostic, has_unknown, HasTy, HasMismatch, HasDiagnostic, WasSeen, Given, IsAtOrMismatch, IsCallee, ArgsRule, CallRule, IsPathToItem, at_or_mismatch, AllAt, Rule, IsTrueSeen, Up, IsTyped}
 use Rattle.infer_result.proofs.Derived.{one_at}
 
 -- the call's item is at these types; where its input at this position is a parameter, the type in that one's place is u

@@ -1,30 +1,10 @@
 -- Typed tables without complaint, of types that are known, whose goals hold, are derivations.
 use Rattle.std.specs.Prelude.{◌≡◌, ◌⊎◌, ◌<◌, length, List, [], ◌∷◌, slice_get, Option, Some, None}
 use Rattle.std.proofs.Common.{inl, inr, subst}
-use Rattle.hir_types.specs.declared.ids.ExprId.{ExprId}
-use Rattle.hir_types.specs.declared.ids.DefWithBodyId.{DefWithBodyId}
-use Rattle.hir_raw.specs.declared.raw.RawStmt.{RawStmt}
-use Rattle.hir_raw.specs.declared.raw.RawStmt.TheVariants as stmt
-use Rattle.hir_raw.specs.declared.raw.RawArm.{RawArm}
-use Rattle.hir_raw.specs.declared.raw.RawExpr.{RawExpr}
-use Rattle.hir_raw.specs.declared.raw.RawExpr.TheVariants as expr
-use Rattle.hir_raw.specs.declared.raw.RawFacts.{RawFacts}
-use Rattle.hir_raw.specs.Lets.{let_aliases}
-use Rattle.infer_result.specs.declared.result.InferenceResult.{InferenceResult}
-use Rattle.infer_result.specs.Table.{HasMismatch, AnyMismatch, WasSeen, MaybeMismatch}
-use Rattle.infer_result.specs.Closed.{AllTypes}
-use Rattle.infer_result.specs.Unknown.{IsKnown}
-use Rattle.infer_result.specs.Kinds.Block.{StmtHasMismatch, StmtsHaveMismatch}
-use Rattle.infer_result.specs.Kinds.Match.{GuardsHaveMismatch, arm_exprs}
-use Rattle.infer_result.specs.Excused.{ExcusedAs}
-use Rattle.infer_result.specs.Places.{Given}
-use Rattle.infer_result.specs.Rules.{ObeysExpression}
-use Rattle.infer_result.specs.Kinds.If.{branches_of}
-use Rattle.hir_facts.specs.Bodies.{return_type}
-use Rattle.infer_result.specs.OwnTypes.{aliases_of}
-use Rattle.infer_result.specs.Typed.{IsTyped, IsTableOf, given, given_by}
-use Rattle.infer_result.specs.Derivation.{HasNoComplaint, IsDerivation}
-use Rattle.infer_result.specs.Needs.{NeedsHold}
+use Rattle.infer_result.specs.Words.{ExprId, DefWithBodyId, RawStmt, RawArm, RawExpr, RawFacts, let_aliases, return_type}
+use Rattle.infer_result.specs.Words.hir_raw.declared.raw.RawStmt.TheVariants as stmt
+use Rattle.infer_result.specs.Words.hir_raw.declared.raw.RawExpr.TheVariants as expr
+use Rattle.infer_result.specs.Own.{InferenceResult, HasMismatch, AnyMismatch, WasSeen, MaybeMismatch, AllTypes, IsKnown, StmtHasMismatch, StmtsHaveMismatch, GuardsHaveMismatch, arm_exprs, ExcusedAs, Given, ObeysExpression, branches_of, aliases_of, IsTyped, IsTableOf, given, given_by, HasNoComplaint, IsDerivation, NeedsHold}
 
 module _ (g : Given) (t : InferenceResult) (h : IsTyped g t) (known : AllTypes IsKnown t) (clean : HasNoComplaint t) where
   no_mismatch : (e : ExprId) → HasMismatch t e → ⊥

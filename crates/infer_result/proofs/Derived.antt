@@ -3,71 +3,21 @@ use Rattle.std.specs.Prelude.{ℕ, zero, suc, ◌<◌, ◌≡◌, ◌⊎◌, tru
 use Rattle.std.proofs.Common.{inl, inr, ap, arith, length-append, sym, subst, ◌∙◌}
 use Rattle.std.specs.Option.{option_and_then}
 use Rattle.std.proofs.lemmas.Option.{slice_get_within}
-use Rattle.hir_types.specs.declared.ids.ExprId.{ExprId}
-use Rattle.hir_types.specs.declared.ids.PatId.{PatId}
-use Rattle.hir_types.specs.declared.ids.BindingId.{BindingId}
-use Rattle.hir_types.specs.declared.ids.TypeRefId.{TypeRefId}
+use Rattle.infer_result.specs.Words.{ExprId, PatId, BindingId, TypeRefId, AdtId, VariantId, CallableDefId, GenericArg, GenericArg-F, out-GenericArg, out-roll-GenericArg, Ty, Ty-F, out-Ty, out-roll-Ty, RawLiteral, RawPath, RawStmt, RawArm, RawExpr, RawPat, RawBody, RawFn, RawType, RawCtor, RawVariant, unit, written_type, filled_written, names_item, fn_arity, variant_arity, adt_params, Signature, fn_signature, ctor_signature, signature_by, taken_types, own_adt, ctor_type, signature_of, type_args, at_args, erased, Schedule, Role, root, initializer, let_pattern, argument, Part, Node, the_body, inner, IsNode, IsSchedule, part_at, stmts_of, stmt_at}
 use Rattle.hir_types.specs.declared.ids.ExprOrPatId.TheVariants as node
-use Rattle.hir_types.specs.declared.ids.AdtId.{AdtId}
-use Rattle.hir_types.specs.declared.ids.VariantId.{VariantId}
-use Rattle.hir_types.specs.declared.ids.CallableDefId.{CallableDefId}
 use Rattle.hir_types.specs.declared.ids.CallableDefId.TheVariants as callable
-use Rattle.hir_types.specs.declared.ty.GenericArg.{GenericArg, GenericArg-F, out-GenericArg, out-roll-GenericArg}
 use Rattle.hir_types.specs.declared.ty.GenericArg.TheVariants as arg
-use Rattle.hir_types.specs.declared.ty.Ty.{Ty, Ty-F, out-Ty, out-roll-Ty}
 use Rattle.hir_types.specs.declared.ty.Ty.TheVariants as ty
-use Rattle.hir_raw.specs.declared.raw.RawLiteral.{RawLiteral}
-use Rattle.hir_raw.specs.declared.raw.RawLiteral.TheVariants as literal
-use Rattle.hir_raw.specs.declared.raw.RawPath.{RawPath}
-use Rattle.hir_raw.specs.declared.raw.RawPath.TheVariants as path
-use Rattle.hir_raw.specs.declared.raw.RawStmt.{RawStmt}
-use Rattle.hir_raw.specs.declared.raw.RawStmt.TheVariants as stmt
-use Rattle.hir_raw.specs.declared.raw.RawArm.{RawArm}
-use Rattle.hir_raw.specs.declared.raw.RawExpr.{RawExpr}
-use Rattle.hir_raw.specs.declared.raw.RawExpr.TheVariants as expr
-use Rattle.hir_raw.specs.declared.raw.RawPat.{RawPat}
-use Rattle.hir_raw.specs.declared.raw.RawPat.TheVariants as pat
-use Rattle.hir_raw.specs.declared.raw.RawBody.{RawBody}
-use Rattle.hir_raw.specs.declared.raw.RawFn.{RawFn}
-use Rattle.hir_raw.specs.declared.raw.RawType.{RawType}
-use Rattle.hir_raw.specs.declared.raw.RawCtor.{RawCtor}
-use Rattle.hir_raw.specs.declared.raw.RawCtor.TheVariants as ctor
-use Rattle.hir_raw.specs.declared.raw.RawVariant.{RawVariant}
-use Rattle.hir_types.specs.Types.{unit}
-use Rattle.hir_raw.specs.WrittenTypes.{written_type}
-use Rattle.hir_facts.specs.Filled.{filled_written}
-use Rattle.hir_raw.specs.Scope.{names_item, fn_arity, variant_arity, adt_params}
-use Rattle.hir_raw.specs.Signatures.{Signature, fn_signature, ctor_signature, signature_by, taken_types, own_adt, ctor_type, signature_of, type_args, at_args}
-use Rattle.hir_types.specs.Erasure.{erased}
-use Rattle.hir_raw.specs.declared.schedule.Schedule.{Schedule}
-use Rattle.hir_raw.proofs.Ways.{one_place}
-use Rattle.hir_raw.specs.Order.{Role, root, initializer, let_pattern, argument, Part, Node, the_body, inner, IsNode, IsSchedule, part_at, stmts_of, stmt_at}
-use Rattle.infer_result.specs.declared.result.InferenceResult.{InferenceResult}
-use Rattle.infer_result.specs.declared.result.TypeMismatch.{TypeMismatch}
+use Rattle.infer_result.specs.Words.hir_raw.declared.raw.RawLiteral.TheVariants as literal
+use Rattle.infer_result.specs.Words.hir_raw.declared.raw.RawPath.TheVariants as path
+use Rattle.infer_result.specs.Words.hir_raw.declared.raw.RawStmt.TheVariants as stmt
+use Rattle.infer_result.specs.Words.hir_raw.declared.raw.RawExpr.TheVariants as expr
+use Rattle.infer_result.specs.Words.hir_raw.declared.raw.RawPat.TheVariants as pat
+use Rattle.infer_result.specs.Words.hir_raw.declared.raw.RawCtor.TheVariants as ctor
+use Rattle.infer_result.proofs.Words.{one_place}
+use Rattle.infer_result.specs.Own.{InferenceResult, TypeMismatch, At, HasTy, PatTy, HasMismatch, AnyMismatch, AnyDiagnostic, mismatch, MaybeMismatch, IsTotal, Given, let_types, hole_type, declared, AreRecorded, IsAt, IsAtOrMismatch, IsAtMaybe, IsAtMaybeOrMismatch, MisfitsAs, PatIsAtOrMismatch, IsCtorAt, adt_at, fields_at, IsCallee, IsInputAt, ArgsRule, ItemCallRule, CallsNonGeneric, IsWrittenInput, IsPathToItem, IsAsked, Asks, AsksOf, Gives, GivesPart, Incoming, GivesComponent, AllPatsAt, GivesField, IsItemOf, IsPatOf, PatsAtFields, IsLiteralType, IsOwnType, PathRule, NamesLet, Placing, at_or_mismatch, at_types, AllAt, LetRule, StmtRule, StmtsRule, TailRule, StmtHasMismatch, StmtsHaveMismatch, IsBlockWithoutTail, branches_of, ElseRule, IsIfWithoutElse, arm_exprs, ArmPatterns, GuardRule, ArmsRule, GuardsHaveMismatch, Rule, BodyObeys, PatRule, ExcusedAs, BodyIsExcused, Up, of_literal, of_written, of_initializer, of_parameter, of_call, of_unit, Stated, EndsInUnit, IsTrueMismatch, IsMade, IsTyped}
 use Rattle.infer_result.specs.declared.diagnostics.InferenceDiagnostic.TheVariants as diagnostic
-use Rattle.infer_result.specs.Table.{At, HasTy, PatTy, HasMismatch, AnyMismatch, AnyDiagnostic, mismatch, MaybeMismatch}
-use Rattle.infer_result.specs.Closed.{IsTotal}
-use Rattle.infer_result.specs.Places.{Given, let_types, hole_type, declared, AreRecorded, IsAt, IsAtOrMismatch, IsAtMaybe, IsAtMaybeOrMismatch, MisfitsAs, PatIsAtOrMismatch}
-use Rattle.infer_result.specs.Kinds.Constructor.{IsCtorAt, adt_at, fields_at}
-use Rattle.infer_result.specs.Kinds.Call.{IsCallee, IsInputAt, ArgsRule, ItemCallRule, CallsNonGeneric, IsWrittenInput, IsPathToItem}
-use Rattle.infer_result.specs.Demands.{IsAsked, Asks, AsksOf}
-use Rattle.infer_result.specs.Incoming.{Gives, GivesPart, Incoming}
-use Rattle.infer_result.specs.Pats.Tuple.{GivesComponent, AllPatsAt}
-use Rattle.infer_result.specs.Pats.Constructor.{GivesField, IsItemOf, IsPatOf, PatsAtFields}
-use Rattle.infer_result.specs.Kinds.Literal.{IsLiteralType, IsOwnType}
-use Rattle.infer_result.specs.Kinds.Path.{PathRule, NamesLet}
-use Rattle.infer_result.specs.Placing.{Placing, at_or_mismatch, at_types}
-use Rattle.infer_result.specs.Kinds.Tuple.{AllAt}
-use Rattle.infer_result.specs.Kinds.Block.{LetRule, StmtRule, StmtsRule, TailRule, StmtHasMismatch, StmtsHaveMismatch, IsBlockWithoutTail}
-use Rattle.infer_result.specs.Kinds.If.{branches_of, ElseRule, IsIfWithoutElse}
-use Rattle.infer_result.specs.Kinds.Match.{arm_exprs, ArmPatterns, GuardRule, ArmsRule, GuardsHaveMismatch}
-use Rattle.infer_result.specs.Rules.{Rule, BodyObeys, PatRule}
-use Rattle.infer_result.specs.Excused.{ExcusedAs, BodyIsExcused}
-use Rattle.infer_result.specs.Upward.{Up, of_literal, of_written, of_initializer, of_parameter, of_call, of_unit, Stated}
-use Rattle.infer_result.specs.Truth.Mismatch.{EndsInUnit, IsTrueMismatch}
-use Rattle.infer_result.specs.Made.{IsMade}
 use Rattle.infer_result.proofs.Parts.{LetStands, ArmStands, PartStands, comes_from}
-use Rattle.infer_result.specs.Typed.{IsTyped}
 
 -- a node stands at one place alone
 abbrev pub StandsOnce : RawBody → Type 0

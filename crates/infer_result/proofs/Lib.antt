@@ -10,3 +10,4 @@ pub mod Under
 pub mod StableExprs
 pub mod StablePats
 pub mod StableRules
+pub mod Words

@@ -1,32 +1,10 @@
 -- Where no function and no adt has predicates, and no signature and no field an associated type, no node needs a goal.
 use Rattle.std.proofs.Common.{◌≡◌, ◌∙◌, ℕ, List, [], map, slice_get, Option, Some, None, option_map, ap, refl, subst}
-use Rattle.hir_types.specs.declared.ids.DefWithBodyId.{DefWithBodyId}
-use Rattle.hir_types.specs.declared.ids.ExprOrPatId.{ExprOrPatId}
+use Rattle.infer_result.specs.Words.{DefWithBodyId, ExprOrPatId, AliasBound, GenericArg, TraitRef, Ty, Ty-F, out-Ty, RawExpr, RawGoal, RawPath, RawVariant, RawFn, RawAdt, RawBody, RawFacts, fn_aliases, variant_aliases, Asked, goal_at, preds_or_none}
 use Rattle.hir_types.specs.declared.ids.ExprOrPatId.TheVariants as node
-use Rattle.hir_types.specs.declared.ty.AliasBound.{AliasBound}
-use Rattle.hir_types.specs.declared.ty.GenericArg.{GenericArg}
-use Rattle.hir_types.specs.declared.ty.TraitRef.{TraitRef}
-use Rattle.hir_types.specs.declared.ty.Ty.{Ty, Ty-F, out-Ty}
-use Rattle.hir_raw.specs.declared.raw.RawExpr.{RawExpr}
-use Rattle.hir_raw.specs.declared.raw.RawExpr.TheVariants as expr
-use Rattle.hir_raw.specs.declared.raw.RawGoal.{RawGoal}
-use Rattle.hir_raw.specs.declared.raw.RawPath.{RawPath}
-use Rattle.hir_raw.specs.declared.raw.RawPath.TheVariants as path
-use Rattle.hir_raw.specs.declared.raw.RawVariant.{RawVariant}
-use Rattle.hir_raw.specs.declared.raw.RawFn.{RawFn}
-use Rattle.hir_raw.specs.declared.raw.RawAdt.{RawAdt}
-use Rattle.hir_raw.specs.declared.raw.RawBody.{RawBody}
-use Rattle.hir_raw.specs.declared.raw.RawFacts.{RawFacts}
-use Rattle.hir_raw.specs.Hidden.{fn_aliases, variant_aliases}
-use Rattle.goal_answers.specs.Goals.{Asked}
-use Rattle.goal_facts.specs.Arguments.{goal_at}
-use Rattle.goal_facts.specs.Environment.{preds_or_none}
-use Rattle.infer_result.specs.declared.gaps.Gap.{Gap}
-use Rattle.infer_result.specs.declared.result.InferenceResult.{InferenceResult}
-use Rattle.infer_result.specs.AliasNeeds.{none_for_aliases}
-use Rattle.infer_result.specs.Needs.{variant_preds, path_preds, expr_preds, item_args, item_path, needs_preds, needs_of, pat_needs_by, pat_needs_of, node_needs, IsNeeded, HasGap, NeedsHold}
-use Rattle.infer_result.specs.Table.{recorded}
-use Rattle.infer_result.specs.Typed.{given}
+use Rattle.infer_result.specs.Words.hir_raw.declared.raw.RawExpr.TheVariants as expr
+use Rattle.infer_result.specs.Words.hir_raw.declared.raw.RawPath.TheVariants as path
+use Rattle.infer_result.specs.Own.{Gap, InferenceResult, none_for_aliases, variant_preds, path_preds, expr_preds, item_args, item_path, needs_preds, needs_of, pat_needs_by, pat_needs_of, node_needs, IsNeeded, HasGap, NeedsHold, recorded, given}
 
 none_at : {X : Type 0} (n : ℕ) (x : X) → slice_get [] n ≡ Some x → ⊥
 none_at n x h = absurd (cc)

@@ -1,21 +1,11 @@
 -- Which node a part comes from.
 use Rattle.std.specs.Prelude.{ℕ, zero, suc, ◌+◌, ◌≡◌, ◌⊎◌, List, [], ◌∷◌, ◌++◌, slice_get, Option, Some, None, refl}
 use Rattle.std.proofs.Common.{inl, inr, ap, subst, arith, ◌∙◌}
-use Rattle.hir_types.specs.declared.ids.ExprId.{ExprId}
-use Rattle.hir_types.specs.declared.ids.PatId.{PatId}
-use Rattle.hir_types.specs.declared.ids.TypeRefId.{TypeRefId}
-use Rattle.hir_types.specs.declared.ids.VariantId.{VariantId}
-use Rattle.hir_types.specs.declared.ids.ExprOrPatId.{ExprOrPatId}
+use Rattle.infer_result.specs.Words.{ExprId, PatId, TypeRefId, VariantId, ExprOrPatId, RawStmt, RawArm, RawPat, RawExpr, RawBody, Role, parameter, root, initializer, let_pattern, let_else, statement, tail, element, condition, then_branch, else_branch, scrutinee, arm_pattern, guard, arm, callee, argument, subpattern, pattern_literal, Part, expr_part, pat_part, maybe_part, stmt_parts, stmts_parts, exprs_from, arm_patterns, arm_parts, arms_parts, subpatterns, param_parts, Node, the_body, inner, parts_of_expr, parts_of_pat, part_at, stmts_of, stmt_at}
 use Rattle.hir_types.specs.declared.ids.ExprOrPatId.TheVariants as node
-use Rattle.hir_raw.specs.declared.raw.RawStmt.{RawStmt}
-use Rattle.hir_raw.specs.declared.raw.RawStmt.TheVariants as stmt
-use Rattle.hir_raw.specs.declared.raw.RawArm.{RawArm}
-use Rattle.hir_raw.specs.declared.raw.RawPat.{RawPat}
-use Rattle.hir_raw.specs.declared.raw.RawPat.TheVariants as pat
-use Rattle.hir_raw.specs.declared.raw.RawExpr.{RawExpr}
-use Rattle.hir_raw.specs.declared.raw.RawExpr.TheVariants as expr
-use Rattle.hir_raw.specs.declared.raw.RawBody.{RawBody}
-use Rattle.hir_raw.specs.Order.{Role, parameter, root, initializer, let_pattern, let_else, statement, tail, element, condition, then_branch, else_branch, scrutinee, arm_pattern, guard, arm, callee, argument, subpattern, pattern_literal, Part, expr_part, pat_part, maybe_part, stmt_parts, stmts_parts, exprs_from, arm_patterns, arm_parts, arms_parts, subpatterns, param_parts, Node, the_body, inner, parts_of_expr, parts_of_pat, part_at, stmts_of, stmt_at}
+use Rattle.infer_result.specs.Words.hir_raw.declared.raw.RawStmt.TheVariants as stmt
+use Rattle.infer_result.specs.Words.hir_raw.declared.raw.RawPat.TheVariants as pat
+use Rattle.infer_result.specs.Words.hir_raw.declared.raw.RawExpr.TheVariants as expr
 
 module _ {X : Type 0} where
   -- an entry of two lists in a row is one of the first or one of the second

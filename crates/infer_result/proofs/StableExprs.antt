@@ -2,45 +2,15 @@
 use Rattle.std.proofs.Common.{ℕ, ◌≡◌, inl, inr, refl, sym, ap, subst, ◌∙◌, true, false, List, [], ◌∷◌, map, length, Option, Some, None, slice_get}
 use Rattle.std.proofs.lemmas.List.{length-map}
 use Rattle.hir_types.specs.declared.ids.CallableDefId.TheVariants as callable
-use Rattle.hir_types.specs.declared.ids.ExprId.{ExprId}
-use Rattle.hir_types.specs.declared.ids.PatId.{PatId}
-use Rattle.hir_types.specs.declared.ids.TypeRefId.{TypeRefId}
-use Rattle.hir_types.specs.declared.ids.VariantId.{VariantId}
-use Rattle.hir_types.specs.declared.ty.Ty.{Ty}
+use Rattle.infer_result.specs.Words.{ExprId, PatId, TypeRefId, VariantId, Ty, Same, replaced_bool, replaced_char, instance_at_types, Assignment, with_holes, folded, unit, RawArm, RawExpr, RawLiteral, RawPat, RawPath, RawStmt, IsLawful, Signature, at_args}
 use Rattle.hir_types.specs.declared.ty.Ty.TheVariants as ty
-use Rattle.hir_types.specs.Erasure.{Same}
-use Rattle.hir_types.specs.Replacements.{replaced_bool, replaced_char}
-use Rattle.hir_types.specs.Instances.{instance_at_types}
-use Rattle.hir_types.specs.Subst.{Assignment, with_holes, folded}
-use Rattle.hir_types.specs.Types.{unit}
-use Rattle.hir_raw.specs.declared.raw.RawArm.{RawArm}
-use Rattle.hir_raw.specs.declared.raw.RawExpr.{RawExpr}
-use Rattle.hir_raw.specs.declared.raw.RawExpr.TheVariants as expr
-use Rattle.hir_raw.specs.declared.raw.RawLiteral.{RawLiteral}
-use Rattle.hir_raw.specs.declared.raw.RawLiteral.TheVariants as literal
-use Rattle.hir_raw.specs.declared.raw.RawPat.{RawPat}
-use Rattle.hir_raw.specs.declared.raw.RawPat.TheVariants as pat
-use Rattle.hir_raw.specs.declared.raw.RawPath.{RawPath}
-use Rattle.hir_raw.specs.declared.raw.RawPath.TheVariants as path
-use Rattle.hir_raw.specs.declared.raw.RawStmt.{RawStmt}
-use Rattle.hir_raw.specs.declared.raw.RawStmt.TheVariants as stmt
-use Rattle.hir_facts.specs.Lawful.{IsLawful}
-use Rattle.hir_raw.specs.Signatures.{Signature, at_args}
-use Rattle.infer_result.specs.declared.result.InferenceResult.{InferenceResult}
+use Rattle.infer_result.specs.Words.hir_raw.declared.raw.RawExpr.TheVariants as expr
+use Rattle.infer_result.specs.Words.hir_raw.declared.raw.RawLiteral.TheVariants as literal
+use Rattle.infer_result.specs.Words.hir_raw.declared.raw.RawPat.TheVariants as pat
+use Rattle.infer_result.specs.Words.hir_raw.declared.raw.RawPath.TheVariants as path
+use Rattle.infer_result.specs.Words.hir_raw.declared.raw.RawStmt.TheVariants as stmt
+use Rattle.infer_result.specs.Own.{InferenceResult, At, MismatchAt, mismatch, Given, IsAt, IsAtOrMismatch, MisfitsAs, PatIsAtOrMismatch, IsCtorPath, IsCallee, ArgsRule, CallRule, IsLiteralType, PathRule, Placing, at_or_mismatch, at_types, AllAt, LetRule, StmtRule, StmtsRule, TailRule, branches_of, ElseRule, arm_exprs, ArmPatterns, GuardRule, ArmsRule, Rule, ObeysOrMismatch, ObeysExpression, mismatch_under, diagnostic_under, table_under}
 use Rattle.infer_result.specs.declared.diagnostics.InferenceDiagnostic.TheVariants as diagnostic
-use Rattle.infer_result.specs.Table.{At, MismatchAt, mismatch}
-use Rattle.infer_result.specs.Places.{Given, IsAt, IsAtOrMismatch, MisfitsAs, PatIsAtOrMismatch}
-use Rattle.infer_result.specs.Kinds.Constructor.{IsCtorPath}
-use Rattle.infer_result.specs.Kinds.Call.{IsCallee, ArgsRule, CallRule}
-use Rattle.infer_result.specs.Kinds.Literal.{IsLiteralType}
-use Rattle.infer_result.specs.Kinds.Path.{PathRule}
-use Rattle.infer_result.specs.Placing.{Placing, at_or_mismatch, at_types}
-use Rattle.infer_result.specs.Kinds.Tuple.{AllAt}
-use Rattle.infer_result.specs.Kinds.Block.{LetRule, StmtRule, StmtsRule, TailRule}
-use Rattle.infer_result.specs.Kinds.If.{branches_of, ElseRule}
-use Rattle.infer_result.specs.Kinds.Match.{arm_exprs, ArmPatterns, GuardRule, ArmsRule}
-use Rattle.infer_result.specs.Rules.{Rule, ObeysOrMismatch, ObeysExpression}
-use Rattle.infer_result.specs.Stable.{mismatch_under, diagnostic_under, table_under}
 use Rattle.infer_result.proofs.Unchanged.{instances_under, signature_unchanged}
 use Rattle.infer_result.proofs.Under.{At-under, tuple_under, item_under, unit_under, integer_under, ctor_under, same_under, count_under, ctor_at_under, type_under, pat_type_under, has_mismatch_under, any_mismatch_under, has_pat_mismatch_under, seen_under, recorded_under, declared_under}
 

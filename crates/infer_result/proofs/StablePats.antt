@@ -2,30 +2,14 @@
 use Rattle.std.proofs.Common.{ℕ, ◌≡◌, inl, inr, refl, sym, ap, subst, ◌∙◌, List, [], ◌∷◌, ◌++◌, length, map, Option, Some, None, slice_get}
 use Rattle.std.proofs.lemmas.List.{length-map, map-append}
 use Rattle.hir_types.specs.declared.ids.CallableDefId.TheVariants as callable
-use Rattle.hir_types.specs.declared.ids.PatId.{PatId}
-use Rattle.hir_types.specs.declared.ids.VariantId.{VariantId}
+use Rattle.infer_result.specs.Words.{PatId, VariantId, Ty, Assignment, folded, RawPat, RawVariant, IsLawful, Role, parameter, let_pattern, arm_pattern, subpattern, Node, the_body, inner, taken_types, type_args, ctor_item}
 use Rattle.hir_types.specs.declared.ids.ExprOrPatId.TheVariants as node
-use Rattle.hir_types.specs.declared.ty.Ty.{Ty}
 use Rattle.hir_types.specs.declared.ty.Ty.TheVariants as ty
-use Rattle.hir_types.specs.Subst.{Assignment, folded}
-use Rattle.hir_raw.specs.declared.raw.RawPat.{RawPat}
-use Rattle.hir_raw.specs.declared.raw.RawPat.TheVariants as pat
-use Rattle.hir_raw.specs.declared.raw.RawPath.TheVariants as path
-use Rattle.hir_raw.specs.declared.raw.RawVariant.{RawVariant}
-use Rattle.hir_facts.specs.Lawful.{IsLawful}
-use Rattle.hir_raw.specs.Order.{Role, parameter, let_pattern, arm_pattern, subpattern, Node, the_body, inner}
-use Rattle.hir_raw.specs.Signatures.{taken_types, type_args, ctor_item}
-use Rattle.infer_result.specs.declared.result.InferenceResult.{InferenceResult}
-use Rattle.infer_result.specs.Table.{PatTy, PatItem}
-use Rattle.infer_result.specs.Places.{Given, StandsAt, declared, PatIsAtOrMismatch}
-use Rattle.infer_result.specs.Kinds.Constructor.{IsVariantAt, IsCtorAt, adt_at, fields_at}
-use Rattle.infer_result.specs.Pats.Tuple.{GivesComponent, AllPatsAt}
-use Rattle.infer_result.specs.Pats.Constructor.{GivesField, IsItemOf, IsPatOf, PatsAtFields, CtorPatRule}
-use Rattle.infer_result.specs.Incoming.{GivesPart, Gives}
+use Rattle.infer_result.specs.Words.hir_raw.declared.raw.RawPat.TheVariants as pat
+use Rattle.infer_result.specs.Words.hir_raw.declared.raw.RawPath.TheVariants as path
+use Rattle.infer_result.specs.Own.{InferenceResult, PatTy, PatItem, Given, StandsAt, declared, PatIsAtOrMismatch, IsVariantAt, IsCtorAt, adt_at, fields_at, GivesComponent, AllPatsAt, GivesField, IsItemOf, IsPatOf, PatsAtFields, CtorPatRule, GivesPart, Gives, PatRule, ObeysPattern, diagnostic_under, table_under, WholeObeys, IsClosedType}
 use Rattle.infer_result.proofs.Derived.{one_at, one_item, tuple_parts, adt_no_tuple}
 use Rattle.infer_result.proofs.Parts.{PartStands, comes_from}
-use Rattle.infer_result.specs.Rules.{PatRule, ObeysPattern}
-use Rattle.infer_result.specs.Stable.{diagnostic_under, table_under, WholeObeys, IsClosedType}
 use Rattle.infer_result.proofs.Unchanged.{instances_under, fields_unchanged}
 use Rattle.infer_result.proofs.Under.{At-under, At-before, entry_before, tuple_under, adt_under, item_under, variant_under, ctor_at_under, type_under, pat_type_under, recorded_before, declared_under}
 use Rattle.infer_result.proofs.StableExprs.{pat_at_under, ctor_path_under}

@@ -1,15 +1,7 @@
 -- The node rules of the bodies of lawful facts are stable.
 use Rattle.std.proofs.Common.{◌≡◌, ◌<◌, length, Option, Some, None, slice_get, subst, refl}
-use Rattle.hir_types.specs.declared.ids.PatId.{PatId}
-use Rattle.hir_types.specs.declared.ty.Ty.{Ty}
-use Rattle.hir_types.specs.Subst.{Assignment, folded}
-use Rattle.hir_raw.specs.declared.raw.RawFacts.{RawFacts}
-use Rattle.hir_facts.specs.Lawful.{IsLawful}
-use Rattle.infer_result.specs.declared.result.InferenceResult.{InferenceResult}
-use Rattle.infer_result.specs.Places.{Given, IsAt, IsAtOrMismatch, IsAtMaybe, IsAtMaybeOrMismatch}
-use Rattle.infer_result.specs.Rules.{ObeysOrMismatch, ObeysExpression, BodyObeysOrMismatch, BodyObeys, ObeysPattern}
-use Rattle.infer_result.specs.Stable.{table_under, WholeObeys, IsClosedType, HasClosedTypes, RulesAreStable, NodeRulesAreStable}
-use Rattle.infer_result.specs.Typed.{given_by}
+use Rattle.infer_result.specs.Words.{PatId, Ty, Assignment, folded, RawFacts, IsLawful}
+use Rattle.infer_result.specs.Own.{InferenceResult, Given, IsAt, IsAtOrMismatch, IsAtMaybe, IsAtMaybeOrMismatch, ObeysOrMismatch, ObeysExpression, BodyObeysOrMismatch, BodyObeys, ObeysPattern, table_under, WholeObeys, IsClosedType, HasClosedTypes, RulesAreStable, NodeRulesAreStable, given_by}
 use Rattle.infer_result.proofs.Under.{stable_where, type_under}
 use Rattle.infer_result.proofs.StableExprs.{is_at_under, at_or_mismatch_under, expression_under, clauses_under}
 use Rattle.infer_result.proofs.StablePats.{kind_under, pattern_under}

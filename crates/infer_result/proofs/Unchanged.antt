@@ -1,32 +1,11 @@
 -- What facts write has no holes that inference made, so no assignment changes it.
 use Rattle.std.proofs.Common.{ℕ, zero, suc, ◌≡◌, refl, sym, ap, subst, ◌∙◌, List, [], ◌∷◌, map, length, Option, Some, None, slice_get, option_map, option_and_then}
-use Rattle.hir_types.specs.declared.ids.AdtId.{AdtId}
-use Rattle.hir_types.specs.declared.ids.CallableDefId.{CallableDefId}
+use Rattle.infer_result.specs.Words.{AdtId, CallableDefId, TypeRefId, IntegerTy, Ty, Assignment, with_holes, folded, replaced_bool, replaced_char, replaced_int, replaced_uint, replaced_tuple, replaced_adt, replaced_param, integer_type, types_args_folded, instance_at_types, RawAdt, RawCtor, RawField, RawFn, RawType, RawVariant, RawFacts, IsLawful, HasNoHole, filled_written, filled_folded, adt_params, fn_arity, variant_arity, Signature, fn_signature, fn_types, signature_of, signature_by, ctor_signature, taken_types, variant_types, own_adt, params_from, type_args, at_args, written_type}
 use Rattle.hir_types.specs.declared.ids.CallableDefId.TheVariants as callable
-use Rattle.hir_types.specs.declared.ids.TypeRefId.{TypeRefId}
-use Rattle.hir_types.specs.declared.ty.IntegerTy.{IntegerTy}
 use Rattle.hir_types.specs.declared.ty.IntegerTy.TheVariants.{Int, Uint}
-use Rattle.hir_types.specs.declared.ty.Ty.{Ty}
 use Rattle.hir_types.specs.declared.ty.Ty.TheVariants as ty
-use Rattle.hir_types.specs.Subst.{Assignment, with_holes, folded}
-use Rattle.hir_types.specs.Replacements.{replaced_bool, replaced_char, replaced_int, replaced_uint, replaced_tuple, replaced_adt, replaced_param}
-use Rattle.hir_types.specs.Types.{integer_type}
-use Rattle.hir_types.specs.Instances.{types_args_folded, instance_at_types}
-use Rattle.hir_raw.specs.declared.raw.RawAdt.{RawAdt}
-use Rattle.hir_raw.specs.declared.raw.RawCtor.{RawCtor}
-use Rattle.hir_raw.specs.declared.raw.RawCtor.TheVariants as ctor
-use Rattle.hir_raw.specs.declared.raw.RawField.{RawField}
-use Rattle.hir_raw.specs.declared.raw.RawFn.{RawFn}
-use Rattle.hir_raw.specs.declared.raw.RawType.{RawType}
-use Rattle.hir_raw.specs.declared.raw.RawVariant.{RawVariant}
-use Rattle.hir_raw.specs.declared.raw.RawFacts.{RawFacts}
-use Rattle.hir_facts.specs.Lawful.{IsLawful}
-use Rattle.hir_facts.specs.Standing.{HasNoHole}
-use Rattle.hir_facts.specs.Filled.{filled_written, filled_folded}
-use Rattle.hir_facts.proofs.OpenedTypes.{Each, IsOver, over_input, over_output, over_field}
-use Rattle.hir_raw.specs.Scope.{adt_params, fn_arity, variant_arity}
-use Rattle.hir_raw.specs.Signatures.{Signature, fn_signature, fn_types, signature_of, signature_by, ctor_signature, taken_types, variant_types, own_adt, params_from, type_args, at_args}
-use Rattle.hir_raw.specs.WrittenTypes.{written_type}
+use Rattle.infer_result.specs.Words.hir_raw.declared.raw.RawCtor.TheVariants as ctor
+use Rattle.infer_result.proofs.Words.{Each, IsOver, over_input, over_output, over_field}
 
 -- no assignment changes the type
 abbrev pub IsUnchanged : Ty → Type 0

@@ -2,38 +2,13 @@
 use Rattle.std.proofs.Common.{ℕ, zero, suc, ◌≡◌, inl, inr, refl, sym, ap, subst, ◌∙◌, List, [], ◌∷◌, map, length, Option, Some, None, option_map, option_and_then, slice_get, unwrap_or}
 use Rattle.std.proofs.lemmas.List.{length-map}
 use Rattle.std.proofs.lemmas.Option.{slice_get-map}
-use Rattle.hir_types.specs.declared.ids.AdtId.{AdtId}
-use Rattle.hir_types.specs.declared.ids.CallableDefId.{CallableDefId}
+use Rattle.infer_result.specs.Words.{AdtId, CallableDefId, ExprId, PatId, TypeRefId, VariantId, IntegerTy, Ty, Same, term_tells, erased_tells, replaced_int, replaced_uint, replaced_tuple, replaced_adt, replaced_fn_def, replaced_error, folded_twice, types_args_folded, Assignment, with_holes, folded, composed, term_folded, apply, terms_of, integer_type, unit, RawCtor, RawVariant, filled_agree, filled_folded, type_args, ctor_type_by, ctor_type}
 use Rattle.hir_types.specs.declared.ids.CallableDefId.TheVariants as callable
-use Rattle.hir_types.specs.declared.ids.ExprId.{ExprId}
-use Rattle.hir_types.specs.declared.ids.PatId.{PatId}
-use Rattle.hir_types.specs.declared.ids.TypeRefId.{TypeRefId}
-use Rattle.hir_types.specs.declared.ids.VariantId.{VariantId}
-use Rattle.hir_types.specs.declared.ty.IntegerTy.{IntegerTy}
 use Rattle.hir_types.specs.declared.ty.IntegerTy.TheVariants.{Int, Uint}
-use Rattle.hir_types.specs.declared.ty.Ty.{Ty}
 use Rattle.hir_types.specs.declared.ty.Ty.TheVariants as ty
-use Rattle.hir_types.specs.Erasure.{Same}
-use Rattle.hir_types.specs.Faithful.{term_tells, erased_tells}
-use Rattle.hir_types.specs.Replacements.{replaced_int, replaced_uint, replaced_tuple, replaced_adt, replaced_fn_def, replaced_error, folded_twice}
-use Rattle.hir_types.specs.Instances.{types_args_folded}
-use Rattle.hir_types.specs.Subst.{Assignment, with_holes, folded, composed}
-use Rattle.hir_types.specs.TermLaws.{term_folded}
-use Rattle.hir_types.specs.Terms.{apply, terms_of}
-use Rattle.hir_types.specs.Types.{integer_type, unit}
-use Rattle.hir_raw.specs.declared.raw.RawCtor.{RawCtor}
-use Rattle.hir_raw.specs.declared.raw.RawCtor.TheVariants as ctor
-use Rattle.hir_raw.specs.declared.raw.RawVariant.{RawVariant}
-use Rattle.hir_facts.specs.Filled.{filled_agree, filled_folded}
-use Rattle.hir_raw.specs.Signatures.{type_args, ctor_type_by, ctor_type}
-use Rattle.infer_result.specs.declared.result.InferenceResult.{InferenceResult}
-use Rattle.infer_result.specs.declared.result.TypeMismatch.{TypeMismatch}
-use Rattle.infer_result.specs.declared.diagnostics.InferenceDiagnostic.{InferenceDiagnostic}
+use Rattle.infer_result.specs.Words.hir_raw.declared.raw.RawCtor.TheVariants as ctor
+use Rattle.infer_result.specs.Own.{InferenceResult, TypeMismatch, InferenceDiagnostic, At, HasTy, PatTy, PlaceholderTy, HasMismatch, AnyMismatch, HasPatMismatch, WasSeen, Given, let_types, hole_type, declared, AreRecorded, IsVariantAt, IsCtorAt, each_under, mismatch_under, diagnostic_under, table_under, IsStable}
 use Rattle.infer_result.specs.declared.diagnostics.InferenceDiagnostic.TheVariants as diagnostic
-use Rattle.infer_result.specs.Table.{At, HasTy, PatTy, PlaceholderTy, HasMismatch, AnyMismatch, HasPatMismatch, WasSeen}
-use Rattle.infer_result.specs.Places.{Given, let_types, hole_type, declared, AreRecorded}
-use Rattle.infer_result.specs.Kinds.Constructor.{IsVariantAt, IsCtorAt}
-use Rattle.infer_result.specs.Stable.{each_under, mismatch_under, diagnostic_under, table_under, IsStable}
 
 -- ---- lists under a function
 

@@ -2,24 +2,10 @@
 -- those of the function or of the adt (the Rust Reference, "Associated types"; upstream `infer/unify.rs`, `normalize_associated_types_in`).
 use Rattle.std.specs.Prelude.{◌≡◌, ℕ, suc, List, [], ◌∷◌, ◌++◌, length, slice_get, Option, Some, None, refl}
 use Rattle.std.proofs.Common.{ap}
-use Rattle.hir_types.specs.declared.ids.TypeAliasId.{TypeAliasId}
-use Rattle.hir_types.specs.declared.ids.TypeRefId.{TypeRefId}
-use Rattle.hir_types.specs.declared.ty.GenericArg.{GenericArg}
-use Rattle.hir_types.specs.Assigned.{with_params}
-use Rattle.hir_types.specs.Terms.{pair, term}
-use Rattle.hir_raw.specs.declared.raw.RawExpr.{RawExpr}
-use Rattle.hir_raw.specs.declared.raw.RawExpr.TheVariants as expr
-use Rattle.hir_raw.specs.declared.raw.RawFacts.{RawFacts}
-use Rattle.hir_raw.specs.declared.raw.RawFn.{RawFn}
-use Rattle.hir_raw.specs.declared.raw.RawPath.{RawPath}
-use Rattle.hir_raw.specs.declared.raw.RawPath.TheVariants as path
-use Rattle.hir_raw.specs.declared.raw.RawType.{RawType}
-use Rattle.hir_raw.specs.declared.raw.RawType.TheVariants as type
-use Rattle.hir_raw.specs.declared.raw.RawVariant.{RawVariant}
-use Rattle.hir_raw.specs.Hidden.{fn_aliases, variant_aliases}
-use Rattle.hir_raw.specs.Scope.{adt_params, count_or_none}
-use Rattle.goal_answers.specs.Goals.{Asked, projects}
-use Rattle.goal_facts.specs.Arguments.{args_at}
+use Rattle.infer_result.specs.Words.{TypeAliasId, TypeRefId, GenericArg, with_params, pair, term, RawExpr, RawFacts, RawFn, RawPath, RawType, RawVariant, fn_aliases, variant_aliases, adt_params, count_or_none, Asked, projects, args_at}
+use Rattle.infer_result.specs.Words.hir_raw.declared.raw.RawExpr.TheVariants as expr
+use Rattle.infer_result.specs.Words.hir_raw.declared.raw.RawPath.TheVariants as path
+use Rattle.infer_result.specs.Words.hir_raw.declared.raw.RawType.TheVariants as type
 
 -- the associated type at these arguments of the function is the one at this place
 abbrev pub alias_goal : RawFacts → List GenericArg → ℕ → TypeAliasId → List TypeRefId → Asked

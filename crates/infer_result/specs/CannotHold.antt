@@ -1,11 +1,8 @@
 -- Goals in which `{unknown}` stands: whether they could hold with other types in its place.
 use Rattle.std.specs.Prelude.{ℕ, ◌+◌, Option, Some, None}
 use Rattle.hir_types.specs.declared.head.Head.TheVariants as head
-use Rattle.hir_types.specs.declared.head.Hole.{Hole}
+use Rattle.infer_result.specs.Words.{Hole, Term, hole, leaf, pair, Asked, System, answers}
 use Rattle.hir_types.specs.declared.head.Hole.TheVariants as hole_of
-use Rattle.hir_types.specs.Terms.{Term, hole, leaf, pair}
-use Rattle.goal_answers.specs.Goals.{Asked, System}
-use Rattle.goal_answers.specs.Answers.{answers}
 use Rattle.infer_result.specs.Proved.{HoldsUnknown}
 
 -- the hole of this number for a term that begins so, where that is `{unknown}`

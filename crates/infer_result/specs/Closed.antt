@@ -1,19 +1,9 @@
 -- Tables with an entry for each node, and without holes.
 use Rattle.std.specs.Prelude.{ℕ, ◌<◌, ◌≡◌, ◌⊎◌, List, [], length, slice_get, Option, Some}
-use Rattle.hir_types.specs.declared.ids.ExprId.{ExprId}
-use Rattle.hir_types.specs.declared.ids.PatId.{PatId}
-use Rattle.hir_types.specs.declared.ids.BindingId.{BindingId}
-use Rattle.hir_types.specs.declared.ids.VariantId.{VariantId}
-use Rattle.hir_types.specs.declared.ty.Ty.{Ty}
-use Rattle.hir_raw.specs.declared.raw.RawExpr.TheVariants as expr
-use Rattle.hir_raw.specs.declared.raw.RawPath.TheVariants as path
-use Rattle.hir_raw.specs.declared.raw.RawPat.TheVariants as pat
-use Rattle.hir_raw.specs.declared.raw.RawBody.{RawBody}
-use Rattle.hir_raw.specs.declared.raw.RawFacts.{RawFacts}
-use Rattle.hir_raw.specs.declared.raw.RawVariant.{RawVariant}
-use Rattle.hir_raw.specs.Hidden.{variant_aliases}
-use Rattle.hir_raw.specs.Signatures.{ctor_item}
-use Rattle.hir_types.specs.Erasure.{IsClosed}
+use Rattle.infer_result.specs.Words.{ExprId, PatId, BindingId, VariantId, Ty, RawBody, RawFacts, RawVariant, variant_aliases, ctor_item, IsClosed}
+use Rattle.infer_result.specs.Words.hir_raw.declared.raw.RawExpr.TheVariants as expr
+use Rattle.infer_result.specs.Words.hir_raw.declared.raw.RawPath.TheVariants as path
+use Rattle.infer_result.specs.Words.hir_raw.declared.raw.RawPat.TheVariants as pat
 use Rattle.infer_result.specs.declared.result.InferenceResult.{InferenceResult}
 use Rattle.infer_result.specs.declared.result.TypeMismatch.{TypeMismatch}
 use Rattle.infer_result.specs.declared.result.Seen.{Seen}

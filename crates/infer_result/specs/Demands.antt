@@ -1,11 +1,8 @@
 -- What the place of an expression asks of it.
 use Rattle.std.specs.Prelude.{ℕ, ◌≡◌, ◌⊎◌, false, List, slice_get, Some}
-use Rattle.hir_types.specs.declared.ids.ExprId.{ExprId}
-use Rattle.hir_types.specs.declared.ty.Ty.{Ty}
-use Rattle.hir_types.specs.Types.{unit}
+use Rattle.infer_result.specs.Words.{ExprId, Ty, unit, Role, root, initializer, statement, tail, element, condition, then_branch, else_branch, guard, arm, argument, pattern_literal, Node, the_body, inner}
 use Rattle.hir_types.specs.declared.ids.ExprOrPatId.TheVariants as node
 use Rattle.hir_types.specs.declared.ty.Ty.TheVariants as ty
-use Rattle.hir_raw.specs.Order.{Role, root, initializer, statement, tail, element, condition, then_branch, else_branch, guard, arm, argument, pattern_literal, Node, the_body, inner}
 use Rattle.infer_result.specs.declared.result.InferenceResult.{InferenceResult}
 use Rattle.infer_result.specs.Table.{HasTy}
 use Rattle.infer_result.specs.Places.{Given, StandsAt, IsDeclared}

@@ -1,8 +1,7 @@
 -- Nodes whose rule a complaint excuses.
 use Rattle.std.specs.Prelude.{◌⊎◌, slice_get, Option, Some}
-use Rattle.hir_types.specs.declared.ids.ExprId.{ExprId}
-use Rattle.hir_raw.specs.declared.raw.RawExpr.{RawExpr}
-use Rattle.hir_raw.specs.declared.raw.RawExpr.TheVariants as expr
+use Rattle.infer_result.specs.Words.{ExprId, RawExpr}
+use Rattle.infer_result.specs.Words.hir_raw.declared.raw.RawExpr.TheVariants as expr
 use Rattle.infer_result.specs.declared.result.InferenceResult.{InferenceResult}
 use Rattle.infer_result.specs.Table.{HasMismatch, AnyMismatch, WasSeen, AnyDiagnostic, MaybeMismatch}
 use Rattle.infer_result.specs.Places.{Given}

@@ -1,25 +1,10 @@
 -- The types of a plain body with holes for what nothing decides, and the tables that types for these holes
 -- make.
 use Rattle.std.specs.Prelude.{◌≡◌, ◌<◌, ℕ, List, length, map, slice_get, Option, Some, None, IsTrue}
-use Rattle.hir_types.specs.declared.ids.AdtId.{AdtId}
-use Rattle.hir_types.specs.declared.ids.CallableDefId.{CallableDefId}
-use Rattle.hir_types.specs.declared.ids.DefWithBodyId.{DefWithBodyId}
-use Rattle.hir_types.specs.declared.ty.IntegerTy.{IntegerTy}
-use Rattle.hir_types.specs.declared.ty.Ty.{Ty}
+use Rattle.infer_result.specs.Words.{AdtId, CallableDefId, DefWithBodyId, IntegerTy, Ty, integer_type, Assignment, folded, RawBody, RawFacts, body_of, IsPlainBodyOf, IsPlainIn, are_direct_structs, Scope, scope_of, adt_params, callable_params, has_params, type_args, fallback}
 use Rattle.hir_types.specs.declared.ty.Ty.TheVariants as ty
-use Rattle.hir_types.specs.Types.{integer_type}
-use Rattle.hir_types.specs.Subst.{Assignment, folded}
-use Rattle.hir_raw.specs.declared.raw.RawBody.{RawBody}
-use Rattle.hir_raw.specs.declared.raw.RawFacts.{RawFacts}
-use Rattle.hir_facts.specs.Bodies.{body_of}
-use Rattle.hir_facts.specs.Plain.{IsPlainBodyOf}
-use Rattle.hir_facts.specs.PlainTypes.{IsPlainIn}
-use Rattle.hir_facts.specs.Sized.{are_direct_structs}
-use Rattle.hir_raw.specs.Scope.{Scope, scope_of, adt_params, callable_params, has_params}
-use Rattle.hir_raw.specs.Signatures.{type_args}
 use Rattle.infer_result.specs.declared.result.General.{General}
 use Rattle.infer_result.specs.declared.result.InferenceResult.{InferenceResult}
-use Rattle.hir_types.specs.Fallback.{fallback}
 use Rattle.infer_result.specs.Derivation.{HasNoComplaint, IsDerivation}
 
 -- ---- types with holes

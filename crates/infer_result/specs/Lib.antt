@@ -28,4 +28,5 @@ pub mod Report
 pub mod Stable
 pub mod OwnTypes
 pub mod WrittenAliases
-pub mod Below
+pub mod Words
+pub mod Own

@@ -1,10 +1,6 @@
 -- What a walk of a body shows of its table, node by node; the rest of what is promised follows from it.
 use Rattle.std.specs.Prelude.{ℕ, ◌≡◌, ◌<◌, length, slice_get, Some}
-use Rattle.hir_types.specs.declared.ids.ExprId.{ExprId}
-use Rattle.hir_types.specs.declared.ids.PatId.{PatId}
-use Rattle.hir_types.specs.declared.ids.BindingId.{BindingId}
-use Rattle.hir_types.specs.declared.ty.Ty.{Ty}
-use Rattle.hir_types.specs.Erasure.{Same}
+use Rattle.infer_result.specs.Words.{ExprId, PatId, BindingId, Ty, Same}
 use Rattle.infer_result.specs.declared.result.InferenceResult.{InferenceResult}
 use Rattle.infer_result.specs.declared.result.TypeMismatch.{TypeMismatch}
 use Rattle.infer_result.specs.Table.{At, BindingTy}

@@ -4,25 +4,8 @@
 -- `process_user_written_ty`). So is each associated type that stands outermost in the type of a `let` (upstream `infer.rs`, `make_body_ty`).
 use Rattle.std.specs.Prelude.{ℕ, ◌≡◌, ◌⊎◌, ◌==◌, ◌&&◌, true, false, nat_lt, List, [], ◌∷◌, map, slice_get, Option, Some, None}
 use Rattle.hir_types.specs.declared.head.Head.TheVariants as head
-use Rattle.hir_types.specs.declared.ids.DefWithBodyId.{DefWithBodyId}
+use Rattle.infer_result.specs.Words.{DefWithBodyId, TypeRefId, Ty, Term, hole, leaf, pair, term, RawBody, RawFacts, RawFn, RawType, fn_aliases, let_aliases, Scope, scope_of, adt_params, alias_params, has_params, lowered, written_type, return_type, inputs_of, Shape, whole, IsMadeOf, State, new_state, HolesAreOf, System, TypeReads, IsTypeRead, IsSystemOf}
 use Rattle.hir_types.specs.declared.ids.DefWithBodyId.TheVariants as def
-use Rattle.hir_types.specs.declared.ids.TypeRefId.{TypeRefId}
-use Rattle.hir_types.specs.declared.ty.Ty.{Ty}
-use Rattle.hir_types.specs.Terms.{Term, hole, leaf, pair, term}
-use Rattle.hir_raw.specs.declared.raw.RawBody.{RawBody}
-use Rattle.hir_raw.specs.declared.raw.RawFacts.{RawFacts}
-use Rattle.hir_raw.specs.declared.raw.RawFn.{RawFn}
-use Rattle.hir_raw.specs.declared.raw.RawType.{RawType}
-use Rattle.hir_raw.specs.Hidden.{fn_aliases}
-use Rattle.hir_raw.specs.Lets.{let_aliases}
-use Rattle.hir_raw.specs.Scope.{Scope, scope_of, adt_params, alias_params, has_params}
-use Rattle.hir_raw.specs.WrittenTypes.{lowered, written_type}
-use Rattle.hir_facts.specs.Bodies.{return_type, inputs_of}
-use Rattle.infer_table.specs.Preserved.{Shape, whole, IsMadeOf}
-use Rattle.infer_table.specs.Table.{State, new_state, HolesAreOf}
-use Rattle.goal_answers.specs.Goals.{System}
-use Rattle.goal_facts.specs.Reading.{TypeReads, IsTypeRead}
-use Rattle.goal_facts.specs.Systems.{IsSystemOf}
 use Rattle.infer_result.specs.Needs.{scope_item}
 use Rattle.infer_result.specs.Table.{recorded}
 

@@ -1,21 +1,9 @@
 -- What a body is given, and where its expressions and patterns stand.
 use Rattle.std.specs.Prelude.{ℕ, ◌≡◌, ◌⊎◌, List, slice_get, unwrap_or, Option, Some, None}
-use Rattle.hir_types.specs.declared.ids.ExprId.{ExprId}
-use Rattle.hir_types.specs.declared.ids.PatId.{PatId}
-use Rattle.hir_types.specs.declared.ids.TypeRefId.{TypeRefId}
-use Rattle.hir_types.specs.declared.ids.ExprOrPatId.{ExprOrPatId}
-use Rattle.hir_types.specs.declared.ty.Ty.{Ty}
-use Rattle.hir_types.specs.Erasure.{Same}
+use Rattle.infer_result.specs.Words.{ExprId, PatId, TypeRefId, ExprOrPatId, Ty, Same, RawPat, RawType, RawBody, filled_type, StandsIn, masked, Scope, Role, Node, IsNode, part_at, stmt_at}
 use Rattle.hir_types.specs.declared.ty.Ty.TheVariants as ty
-use Rattle.hir_raw.specs.declared.raw.RawPat.{RawPat}
-use Rattle.hir_raw.specs.declared.raw.RawType.{RawType}
-use Rattle.hir_raw.specs.declared.raw.RawBody.{RawBody}
-use Rattle.hir_raw.specs.WrittenTypes.{filled_type, StandsIn}
-use Rattle.hir_raw.specs.Lets.{masked}
-use Rattle.hir_raw.specs.Scope.{Scope}
-use Rattle.hir_raw.specs.Order.{Role, Node, IsNode, part_at, stmt_at}
-use Rattle.hir_raw.specs.declared.raw.RawStmt.TheVariants as stmt
-use Rattle.hir_raw.specs.declared.raw.RawPat.TheVariants as pat
+use Rattle.infer_result.specs.Words.hir_raw.declared.raw.RawStmt.TheVariants as stmt
+use Rattle.infer_result.specs.Words.hir_raw.declared.raw.RawPat.TheVariants as pat
 use Rattle.infer_result.specs.declared.result.InferenceResult.{InferenceResult}
 use Rattle.infer_result.specs.Table.{recorded, HasTy, PatTy, PlaceholderTy, HasMismatch, HasPatMismatch}
 

@@ -1,11 +1,6 @@
 -- How the parts of a node may stand at their types.
 use Rattle.std.specs.Prelude.{ℕ, ◌⊎◌, List}
-use Rattle.hir_types.specs.declared.ids.ExprId.{ExprId}
-use Rattle.hir_types.specs.declared.ids.PatId.{PatId}
-use Rattle.hir_types.specs.declared.ty.Ty.{Ty}
-use Rattle.hir_types.specs.Types.{unit}
-use Rattle.hir_types.specs.Erasure.{Same}
-use Rattle.hir_raw.specs.Order.{element}
+use Rattle.infer_result.specs.Words.{ExprId, PatId, Ty, unit, Same, element}
 use Rattle.infer_result.specs.declared.result.InferenceResult.{InferenceResult}
 use Rattle.infer_result.specs.declared.diagnostics.InferenceDiagnostic.TheVariants as diagnostic
 use Rattle.infer_result.specs.Table.{HasMismatch, MismatchAt, AnyMismatch, HasDiagnostic, WasSeen}

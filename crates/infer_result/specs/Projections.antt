@@ -1,17 +1,9 @@
 -- What each associated type that a node's rule uses was found to be, as a table lists it, and what is left of them in its types: no order of
 -- the nodes, no state.
 use Rattle.std.specs.Prelude.{◌≡◌, ◌⊎◌, ℕ, List, map, slice_get, Some}
-use Rattle.hir_types.specs.declared.ids.TypeAliasId.{TypeAliasId}
+use Rattle.infer_result.specs.Words.{TypeAliasId, GenericArg, Ty, Term, hole, leaf, pair, chain, term, arg_term, answers, Asked, System, projects, args_of, type_of, IsRead, ReadsAs, staying, asked_goal, TypeReads}
 use Rattle.hir_types.specs.declared.goal.Goal.TheVariants as goal
-use Rattle.hir_types.specs.declared.ty.GenericArg.{GenericArg}
-use Rattle.hir_types.specs.declared.ty.Ty.{Ty}
 use Rattle.hir_types.specs.declared.ty.Ty.TheVariants as ty
-use Rattle.hir_types.specs.Terms.{Term, hole, leaf, pair, chain, term, arg_term}
-use Rattle.goal_answers.specs.Answers.{answers}
-use Rattle.goal_answers.specs.Goals.{Asked, System, projects, args_of, type_of}
-use Rattle.goal_answers.specs.Reading.{IsRead, ReadsAs, staying}
-use Rattle.goal_facts.specs.Goals.{asked_goal}
-use Rattle.goal_facts.specs.Reading.{TypeReads}
 use Rattle.infer_result.specs.declared.result.InferenceResult.{InferenceResult}
 use Rattle.infer_result.specs.Proved.{HoldsUnknown, HoldsNoHole, IsProved}
 

@@ -1,10 +1,7 @@
 -- Goals that have a proof in a table, and terms in which `{unknown}`, a hole or a `_` stands.
 use Rattle.std.specs.Prelude.{◌≡◌, ◌⊎◌, ℕ, slice_get, Some}
 use Rattle.hir_types.specs.declared.head.Head.TheVariants as head
-use Rattle.hir_types.specs.Terms.{Term, hole, leaf, pair}
-use Rattle.goal_answers.specs.Goals.{Asked}
-use Rattle.goal_facts.specs.declared.proof.Proof.{Proof}
-use Rattle.goal_facts.specs.Goals.{asked_goal}
+use Rattle.infer_result.specs.Words.{Term, hole, leaf, pair, Asked, Proof, asked_goal}
 use Rattle.infer_result.specs.declared.result.InferenceResult.{InferenceResult}
 
 -- `{unknown}` stands in the term

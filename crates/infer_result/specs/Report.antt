@@ -2,40 +2,17 @@
 -- and for each complaint, and the number of complaints last.
 use Rattle.std.specs.Prelude.{ℕ, zero, suc, ◌+◌, List, [], ◌∷◌, ◌++◌, Option, Some, None, codes, count_by, sum_by, is_some, length, map, min, slice_get, take}
 use Rattle.std.specs.Fmt.{decimal}
-use Rattle.hir_types.specs.declared.ids.AdtId.{AdtId}
-use Rattle.hir_types.specs.declared.ids.CallableDefId.{CallableDefId}
+use Rattle.infer_result.specs.Words.{AdtId, CallableDefId, TypeAliasId, VariantId, ExprOrPatId, DefWithBodyId, Goal, RawAdt, RawAlias, RawFn, RawTrait, RawFacts, RawVariant, adt_params, IntTy, UintTy, FloatTy, Mutability, Safety, Const, AliasBound-F, GenericArg, GenericArg-F, fold-GenericArg, TraitRef-F, out-TraitRef, Ty, Ty-F, fold-Ty}
 use Rattle.hir_types.specs.declared.ids.CallableDefId.TheVariants as callable
-use Rattle.hir_types.specs.declared.ids.TypeAliasId.{TypeAliasId}
-use Rattle.hir_types.specs.declared.ids.VariantId.{VariantId}
-use Rattle.hir_types.specs.declared.ids.ExprOrPatId.{ExprOrPatId}
 use Rattle.hir_types.specs.declared.ids.ExprOrPatId.TheVariants as node
-use Rattle.hir_types.specs.declared.ids.DefWithBodyId.{DefWithBodyId}
 use Rattle.hir_types.specs.declared.ids.DefWithBodyId.TheVariants as def
-use Rattle.hir_types.specs.declared.goal.Goal.{Goal}
 use Rattle.hir_types.specs.declared.goal.Goal.TheVariants as goal
-use Rattle.hir_raw.specs.declared.raw.RawAdt.{RawAdt}
-use Rattle.hir_raw.specs.declared.raw.RawAlias.{RawAlias}
-use Rattle.hir_raw.specs.declared.raw.RawFn.{RawFn}
-use Rattle.hir_raw.specs.declared.raw.RawTrait.{RawTrait}
-use Rattle.hir_raw.specs.declared.raw.RawFacts.{RawFacts}
-use Rattle.hir_raw.specs.declared.raw.RawVariant.{RawVariant}
-use Rattle.hir_raw.specs.Scope.{adt_params}
-use Rattle.hir_types.specs.declared.ty.IntTy.{IntTy}
 use Rattle.hir_types.specs.declared.ty.IntTy.TheVariants as int
-use Rattle.hir_types.specs.declared.ty.UintTy.{UintTy}
 use Rattle.hir_types.specs.declared.ty.UintTy.TheVariants as uint
-use Rattle.hir_types.specs.declared.ty.FloatTy.{FloatTy}
 use Rattle.hir_types.specs.declared.ty.FloatTy.TheVariants as float
-use Rattle.hir_types.specs.declared.ty.Mutability.{Mutability}
 use Rattle.hir_types.specs.declared.ty.Mutability.TheVariants as mutability
-use Rattle.hir_types.specs.declared.ty.Safety.{Safety}
 use Rattle.hir_types.specs.declared.ty.Safety.TheVariants as safety
-use Rattle.hir_types.specs.declared.ty.Const.{Const}
 use Rattle.hir_types.specs.declared.ty.Const.TheVariants as const
-use Rattle.hir_types.specs.declared.ty.AliasBound.{AliasBound-F}
-use Rattle.hir_types.specs.declared.ty.GenericArg.{GenericArg, GenericArg-F, fold-GenericArg}
-use Rattle.hir_types.specs.declared.ty.TraitRef.{TraitRef-F, out-TraitRef}
-use Rattle.hir_types.specs.declared.ty.Ty.{Ty, Ty-F, fold-Ty}
 use Rattle.infer_result.specs.declared.modes.BindingMode.{BindingMode}
 use Rattle.infer_result.specs.declared.modes.BindingMode.TheVariants as mode
 use Rattle.infer_result.specs.declared.diagnostics.InferenceDiagnostic.{InferenceDiagnostic}

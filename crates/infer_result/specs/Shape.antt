@@ -1,7 +1,6 @@
 -- What a table is whatever its nodes' rules, and that what it complains of is so.
 use Rattle.std.specs.Prelude.{ℕ, ◌≡◌, slice_get, Some}
-use Rattle.hir_types.specs.declared.ids.ExprId.{ExprId}
-use Rattle.hir_types.specs.declared.ids.PatId.{PatId}
+use Rattle.infer_result.specs.Words.{ExprId, PatId}
 use Rattle.infer_result.specs.declared.result.InferenceResult.{InferenceResult}
 use Rattle.infer_result.specs.declared.result.TypeMismatch.{TypeMismatch}
 use Rattle.infer_result.specs.declared.result.Seen.{Seen}

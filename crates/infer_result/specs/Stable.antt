@@ -1,16 +1,8 @@
 -- Node rules are stable: what obeys its rule obeys it too where types stand in the place of more holes.
 use Rattle.std.specs.Prelude.{ℕ, ◌≡◌, ◌<◌, List, length, map, slice_get, Option, Some}
 use Rattle.std.specs.Option.{option_map}
-use Rattle.hir_types.specs.declared.ids.ExprId.{ExprId}
-use Rattle.hir_types.specs.declared.ids.PatId.{PatId}
-use Rattle.hir_types.specs.declared.ids.DefWithBodyId.{DefWithBodyId}
+use Rattle.infer_result.specs.Words.{ExprId, PatId, DefWithBodyId, Ty, Assignment, folded, composed, RawBody, RawFacts, body_of, Role, inner}
 use Rattle.hir_types.specs.declared.ids.ExprOrPatId.TheVariants as node
-use Rattle.hir_types.specs.declared.ty.Ty.{Ty}
-use Rattle.hir_types.specs.Subst.{Assignment, folded, composed}
-use Rattle.hir_raw.specs.declared.raw.RawBody.{RawBody}
-use Rattle.hir_raw.specs.declared.raw.RawFacts.{RawFacts}
-use Rattle.hir_facts.specs.Bodies.{body_of}
-use Rattle.hir_raw.specs.Order.{Role, inner}
 use Rattle.infer_result.specs.declared.result.InferenceResult.{InferenceResult}
 use Rattle.infer_result.specs.declared.result.TypeMismatch.{TypeMismatch}
 use Rattle.infer_result.specs.declared.diagnostics.InferenceDiagnostic.{InferenceDiagnostic}

@@ -1,9 +1,6 @@
 -- Types that name what the facts have.
 use Rattle.std.specs.Prelude.{IsTrue}
-use Rattle.hir_types.specs.declared.ids.DefWithBodyId.{DefWithBodyId}
-use Rattle.hir_raw.specs.declared.raw.RawFacts.{RawFacts}
-use Rattle.hir_raw.specs.Scope.{scope_of}
-use Rattle.hir_raw.specs.Fit.{ty_fits}
+use Rattle.infer_result.specs.Words.{DefWithBodyId, RawFacts, scope_of, ty_fits}
 use Rattle.infer_result.specs.declared.result.InferenceResult.{InferenceResult}
 use Rattle.infer_result.specs.Closed.{AllTypes, AllSeen}
 

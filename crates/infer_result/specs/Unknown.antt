@@ -1,13 +1,8 @@
 -- Types in which `{unknown}` stands.
 use Rattle.std.specs.Prelude.{◌≡◌, Bool, true, false, ◌||◌}
 use Rattle.std.specs.List.{list_any}
-use Rattle.hir_types.specs.declared.ty.Const.{Const}
+use Rattle.infer_result.specs.Words.{Const, AliasBound, AliasBound-F, fold-AliasBound, GenericArg, GenericArg-F, fold-GenericArg, TraitRef, TraitRef-F, fold-TraitRef, Ty, Ty-F, fold-Ty, so_or_none}
 use Rattle.hir_types.specs.declared.ty.Const.TheVariants as const
-use Rattle.hir_types.specs.declared.ty.AliasBound.{AliasBound, AliasBound-F, fold-AliasBound}
-use Rattle.hir_types.specs.declared.ty.GenericArg.{GenericArg, GenericArg-F, fold-GenericArg}
-use Rattle.hir_types.specs.declared.ty.TraitRef.{TraitRef, TraitRef-F, fold-TraitRef}
-use Rattle.hir_types.specs.declared.ty.Ty.{Ty, Ty-F, fold-Ty}
-use Rattle.hir_types.specs.Erasure.{so_or_none}
 
 -- `{unknown}` is a type or a const
 abbrev pub unknown_const : Const → Bool

@@ -3,26 +3,9 @@ use Rattle.std.specs.Prelude.{ℕ, ◌≡◌, Bool, true, false, ◌||◌, List,
 use Rattle.std.specs.List.{list_any}
 use Rattle.std.specs.Option.{option_map}
 use Rattle.std.proofs.Common.{refl, sym, ap, ◌∙◌}
-use Rattle.hir_types.specs.declared.ids.AdtId.{AdtId}
-use Rattle.hir_types.specs.declared.ids.CallableDefId.{CallableDefId}
-use Rattle.hir_types.specs.declared.ids.ClosureId.{ClosureId}
-use Rattle.hir_types.specs.declared.ids.OpaqueId.{OpaqueId}
-use Rattle.hir_types.specs.declared.ids.TraitId.{TraitId}
-use Rattle.hir_types.specs.declared.ids.TypeAliasId.{TypeAliasId}
-use Rattle.hir_types.specs.declared.ty.IntTy.{IntTy}
-use Rattle.hir_types.specs.declared.ty.UintTy.{UintTy}
-use Rattle.hir_types.specs.declared.ty.FloatTy.{FloatTy}
-use Rattle.hir_types.specs.declared.ty.Mutability.{Mutability}
-use Rattle.hir_types.specs.declared.ty.Safety.{Safety}
-use Rattle.hir_types.specs.declared.ty.Region.{Region}
-use Rattle.hir_types.specs.declared.ty.Const.{Const}
-use Rattle.hir_types.specs.declared.ty.GenericArg.{GenericArg, GenericArg-F, fold-roll-GenericArg}
+use Rattle.infer_result.specs.Words.{AdtId, CallableDefId, ClosureId, OpaqueId, TraitId, TypeAliasId, IntTy, UintTy, FloatTy, Mutability, Safety, Region, Const, GenericArg, GenericArg-F, fold-roll-GenericArg, TraitRef, fold-roll-TraitRef, AliasBound, fold-roll-AliasBound, Ty, Ty-F, fold-roll-Ty, so_or_none}
 use Rattle.hir_types.specs.declared.ty.GenericArg.TheVariants as arg
-use Rattle.hir_types.specs.declared.ty.TraitRef.{TraitRef, fold-roll-TraitRef}
-use Rattle.hir_types.specs.declared.ty.AliasBound.{AliasBound, fold-roll-AliasBound}
-use Rattle.hir_types.specs.declared.ty.Ty.{Ty, Ty-F, fold-roll-Ty}
 use Rattle.hir_types.specs.declared.ty.Ty.TheVariants as ty
-use Rattle.hir_types.specs.Erasure.{so_or_none}
 use Rattle.infer_result.specs.Unknown.{unknown_const, unknown_arg, unknown_bound, unknown_trait, unknown_step, has_unknown, arg_has_unknown, bound_has_unknown, trait_has_unknown}
 
 any_map : {X : Type 0} (f : X → Bool) (xs : List X) → list_any (λ b. b) (map f xs) ≡ list_any f xs

@@ -1,18 +1,9 @@
 -- Types that nodes have by themselves, and types that are written at their places.
 use Rattle.std.specs.Prelude.{ℕ, ◌≡◌, ◌⊎◌, slice_get, Option, Some, None, []}
-use Rattle.hir_types.specs.declared.ids.ExprId.{ExprId}
-use Rattle.hir_types.specs.declared.ids.TypeRefId.{TypeRefId}
-use Rattle.hir_types.specs.declared.ty.Ty.{Ty}
-use Rattle.hir_types.specs.Erasure.{Same}
+use Rattle.infer_result.specs.Words.{ExprId, TypeRefId, Ty, Same, RawVariant, written_type, Signature, at_args, Role, root, initializer, argument, Node, RawLiteral, HasNoHole}
 use Rattle.hir_types.specs.declared.ids.ExprOrPatId.TheVariants as node
 use Rattle.hir_types.specs.declared.ty.Ty.TheVariants as ty
-use Rattle.hir_raw.specs.declared.raw.RawVariant.{RawVariant}
-use Rattle.hir_raw.specs.WrittenTypes.{written_type}
-use Rattle.hir_raw.specs.Signatures.{Signature, at_args}
-use Rattle.hir_raw.specs.Order.{Role, root, initializer, argument, Node}
-use Rattle.hir_raw.specs.declared.raw.RawLiteral.{RawLiteral}
-use Rattle.hir_facts.specs.Standing.{HasNoHole}
-use Rattle.hir_raw.specs.declared.raw.RawExpr.TheVariants as expr
+use Rattle.infer_result.specs.Words.hir_raw.declared.raw.RawExpr.TheVariants as expr
 use Rattle.infer_result.specs.Places.{Given, let_types, StandsAt}
 use Rattle.infer_result.specs.Incoming.{IsInput}
 use Rattle.infer_result.specs.Kinds.Literal.{IsOwnType}

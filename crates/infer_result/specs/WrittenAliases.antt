@@ -1,18 +1,7 @@
 -- Associated types that a table lists though no type of a node holds them: those that what the definition takes and gives is written with, and its
 -- `let`s, and those in goals that nodes need, or that one is about in which `{unknown}` stands. Of each, at the arguments that its own read as, the table says what it is, unless it stays.
 use Rattle.std.specs.Prelude.{◌≡◌, ℕ, List, map, slice_get, Some}
-use Rattle.hir_types.specs.declared.ids.DefWithBodyId.{DefWithBodyId}
-use Rattle.hir_types.specs.declared.ids.ExprOrPatId.{ExprOrPatId}
-use Rattle.hir_types.specs.declared.ids.TypeAliasId.{TypeAliasId}
-use Rattle.hir_types.specs.declared.ty.GenericArg.{GenericArg}
-use Rattle.hir_types.specs.declared.ty.Ty.{Ty}
-use Rattle.hir_types.specs.Terms.{Term, chain, term, arg_term}
-use Rattle.hir_raw.specs.Lets.{let_aliases}
-use Rattle.hir_raw.specs.WrittenTypes.{lowered}
-use Rattle.goal_answers.specs.Answers.{answers}
-use Rattle.goal_answers.specs.Goals.{Asked, System, projects, args_of}
-use Rattle.goal_answers.specs.Reading.{ReadsAs, alias_at}
-use Rattle.goal_facts.specs.Systems.{IsSystemOf}
+use Rattle.infer_result.specs.Words.{DefWithBodyId, ExprOrPatId, TypeAliasId, GenericArg, Ty, Term, chain, term, arg_term, let_aliases, lowered, answers, Asked, System, projects, args_of, ReadsAs, alias_at, IsSystemOf}
 use Rattle.infer_result.specs.declared.result.InferenceResult.{InferenceResult}
 use Rattle.infer_result.specs.Needs.{HoldsUnknown, IsNeeded, scope_item}
 use Rattle.infer_result.specs.OwnTypes.{HoldsPlaceholder, aliases_of}

@@ -11,7 +11,7 @@ mod unknown;
 
 pub use diagnostics::InferenceDiagnostic;
 pub use gaps::Gap;
-pub use goal_facts::{Proof, ProofSource};
+pub use goal_facts::{Proof, ProofSource, hir_facts};
 pub use hir_types::Mutability;
 pub use modes::BindingMode;
 pub use needed::{callee_needs, expr_id, needed_goals, pat_id, pat_needs};

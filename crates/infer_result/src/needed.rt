@@ -1,21 +1,16 @@
 //! What paths to items need: `infer/path.rs`, `add_required_obligations_for_value_path`.
 ghost use Rattle.std.specs.Prelude.{◌≡◌, ◌+◌, ◌++◌, Some, map, slice_get, IfOk, OnOk};
 ghost use Rattle.hir_types.specs.declared.ids.GenericDefId.TheVariants as generic;
-ghost use Rattle.hir_raw.specs.declared.raw.RawPath.TheVariants as path;
-ghost use Rattle.hir_raw.specs.Scope.{adt_params, count_or_none};
-ghost use Rattle.goal_facts.specs.Arguments.{goal_at};
-ghost use Rattle.goal_facts.specs.Environment.{env_preds};
-ghost use Rattle.goal_facts.specs.Goals.{asked_goal};
-ghost use Rattle.infer_result.specs.AliasNeeds.{alias_goal, alias_goals_by, alias_goals_from, fn_alias_goals, variant_alias_goals, path_alias_goals, alias_goals};
-ghost use Rattle.infer_result.specs.Needs.{path_preds, expr_preds, needed_goals, item_path, callee_needs, pat_needs_by};
-ghost use Rattle.hir_types.specs.declared.ty.Ty.{out-Ty};
+ghost use Rattle.infer_result.specs.Words.hir_raw.declared.raw.RawPath.TheVariants as path;
+ghost use Rattle.infer_result.specs.Words.{adt_params, count_or_none, goal_at, env_preds, asked_goal, out-Ty};
+ghost use Rattle.infer_result.specs.Own.{alias_goal, alias_goals_by, alias_goals_from, fn_alias_goals, variant_alias_goals, path_alias_goals, alias_goals, path_preds, expr_preds, needed_goals, item_path, callee_needs, pat_needs_by};
 
-use goal_facts::{goals_of, push_instances};
-use hir_facts::{
+use goal_facts::hir_facts::{
     AdtId, CallableDefId, ExprId, Facts, FunctionId, GenericArg, Goal, List, PatId, RawExpr, RawFn,
     RawGoal, RawPath, RawType, RawVariant, Ty, TypeAliasId, TypeRefId, VariantId, fn_aliases,
     instantiate, variant_aliases,
 };
+use goal_facts::{goals_of, push_instances};
 use std::alloc::{AllocError, Global};
 
 fn fn_preds(facts: &Facts, function: FunctionId) -> &[RawGoal]

@@ -1,12 +1,14 @@
 //! The types, modes and complaints of a body.
 ghost use Rattle.std.specs.Prelude.{◌≡◌, option_copied};
-ghost use Rattle.infer_result.specs.Table.{recorded, node_type, node_variant, gaps_at};
+ghost use Rattle.infer_result.specs.Own.{recorded, node_type, node_variant, gaps_at};
 
 use crate::diagnostics::InferenceDiagnostic;
 use crate::gaps::Gap;
 use crate::modes::BindingMode;
 use goal_facts::Proof;
-use hir_facts::{BindingId, ExprId, ExprOrPatId, List, PatId, Ty, TypeRefId, VariantId};
+use goal_facts::hir_facts::{
+    BindingId, ExprId, ExprOrPatId, List, PatId, Ty, TypeRefId, VariantId,
+};
 
 /// Two types that should be the same, at an expression or a pattern: `infer.rs`, `TypeMismatch`.
 #[derive(Debug, PartialEq, Eq, Hash)]

@@ -2,8 +2,8 @@
 ghost use Rattle.std.specs.Prelude.{◌≡◌};
 ghost use Rattle.std.specs.List.{list_any};
 ghost use Rattle.std.specs.Option.{option_map};
-ghost use Rattle.hir_types.specs.Erasure.{so_or_none};
-ghost use Rattle.infer_result.specs.Unknown.{unknown_const, has_unknown, arg_has_unknown, bound_has_unknown, trait_has_unknown};
+ghost use Rattle.infer_result.specs.Words.{so_or_none};
+ghost use Rattle.infer_result.specs.Own.{unknown_const, has_unknown, arg_has_unknown, bound_has_unknown, trait_has_unknown};
 
 use hir_types::{AliasBound, Const, GenericArg, List, TraitRef, Ty};
 

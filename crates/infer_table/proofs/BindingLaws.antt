@@ -3,16 +3,10 @@ use Rattle.std.specs.Prelude.{◌≡◌, ℕ, zero, suc, ◌<◌, Bool, true, fa
 use Rattle.std.specs.Option.{option_map}
 use Rattle.std.proofs.Common.{◌⊎◌, inl, inr, refl, sym, ap, ◌∙◌, subst, arith, true≢false}
 use Rattle.std.proofs.lemmas.Option.{same_Some}
-use Rattle.hir_types.specs.declared.head.Hole.{Hole}
+use Rattle.infer_table.specs.Words.{Hole, HoleKind, Term, occurs, hole_eq, hole_number}
 use Rattle.hir_types.specs.declared.head.Hole.TheVariants as hole_of
-use Rattle.hir_types.specs.declared.head.HoleKind.{HoleKind}
-use Rattle.hir_types.specs.Terms.{Term, occurs, hole_eq, hole_number}
-use Rattle.infer_table.specs.declared.binding.Binding.{Binding}
+use Rattle.infer_table.specs.Own.{Binding, Log, found, resolved, Triangular, Free, Kept, entry, log_of, hole_kind, IsOf, AreOf, hole_eq_true, hole_eq_from, BindsOf, resolved_are_of, triangular_last, bound_hole, bound_term, found_binding, AllOf}
 use Rattle.infer_table.specs.declared.binding.Binding.TheVariants as binding
-use Rattle.infer_table.specs.Solutions.{Log, found, resolved, Triangular, Free, Kept, entry, log_of, hole_kind, IsOf, AreOf}
-use Rattle.infer_table.specs.TermLemmas.{hole_eq_true, hole_eq_from}
-use Rattle.infer_table.specs.LogLemmas.{BindsOf, resolved_are_of, triangular_last}
-use Rattle.infer_table.specs.Bindings.{bound_hole, bound_term, found_binding, AllOf}
 
 -- ---- elements of lists by their places
 

@@ -1,24 +1,11 @@
 -- Laws of completion: no hole is left, and it agrees with all that is known.
 use Rattle.std.specs.Prelude.{◌≡◌, ℕ, List, [], ◌∷◌, IfOk}
 use Rattle.std.proofs.Common.{refl, sym, ap, ◌∙◌, subst, Result, Ok, Err}
-use Rattle.hir_types.specs.declared.head.Hole.{Hole}
+use Rattle.infer_table.specs.Words.{Hole, Const, Ty, Replacement, Assignment, with_holes, composed, folded, const_folded, same_assignments, replaced_error, replaced_int, replaced_var, replaced_int_var, folded_twice, const_folded_twice, term_int, Term, apply, terms_of, IsInt, fallback}
 use Rattle.hir_types.specs.declared.head.Hole.TheVariants as hole_of
-use Rattle.hir_types.specs.declared.ty.Const.{Const}
 use Rattle.hir_types.specs.declared.ty.IntTy.TheVariants as int
-use Rattle.hir_types.specs.declared.ty.Ty.{Ty}
 use Rattle.hir_types.specs.declared.ty.Ty.TheVariants as ty
-use Rattle.hir_types.specs.Subst.{Replacement, Assignment, with_holes, composed, folded, const_folded}
-use Rattle.hir_types.specs.Replacements.{same_assignments, replaced_error, replaced_int, replaced_var, replaced_int_var, folded_twice, const_folded_twice}
-use Rattle.infer_table.specs.declared.binding.Binding.{Binding}
-use Rattle.hir_types.specs.TermLaws.{term_int}
-use Rattle.hir_types.specs.Terms.{Term, apply, terms_of, IsInt}
-use Rattle.hir_types.specs.Fallback.{fallback}
-use Rattle.infer_table.specs.Completion.{completion_of, completion}
-use Rattle.infer_table.specs.LogLemmas.{solution, solution_solves, solution_respects}
-use Rattle.infer_table.specs.Resolution.{resolution, IsOpenOrKnown, open_var, open_int_var, terms_composed, resolution_terms}
-use Rattle.infer_table.specs.Solutions.{Log, Solves, Respects, Triangular, log_of}
-use Rattle.infer_table.specs.Table.{State, bindings, Meets}
-use Rattle.infer_table.specs.TermLemmas.{apply_apply, is_int_apply}
+use Rattle.infer_table.specs.Own.{Binding, completion_of, completion, solution, solution_solves, solution_respects, resolution, IsOpenOrKnown, open_var, open_int_var, terms_composed, resolution_terms, Log, Solves, Respects, Triangular, log_of, State, bindings, Meets, apply_apply, is_int_apply}
 
 -- what stands for holes next changes nothing
 fallback_stays : (s : Assignment) → composed s fallback ≡ fallback

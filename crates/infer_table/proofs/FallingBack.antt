@@ -4,30 +4,13 @@ use Rattle.std.specs.Prelude.{nat_eq}
 use Rattle.std.proofs.Math.Nat.{eq-or-lt_of_le}
 use Rattle.std.proofs.lemmas.Option.{slice_get_within}
 use Rattle.hir_types.specs.declared.head.Head.TheVariants as head
-use Rattle.hir_types.specs.declared.head.Hole.{Hole}
+use Rattle.infer_table.specs.Words.{Hole, HoleKind, Ty, fallback, same_assignments, replaced_var, replaced_int, replaced_int_var, folded_twice, const_folded_twice, Assignment, composed, folded, with_holes, each_itself, Term, hole_eq, term, IsInt, occurs, term_int}
 use Rattle.hir_types.specs.declared.head.Hole.TheVariants as hole_of
-use Rattle.hir_types.specs.declared.head.HoleKind.{HoleKind}
 use Rattle.hir_types.specs.declared.head.HoleKind.TheVariants as kind
 use Rattle.hir_types.specs.declared.ty.IntTy.TheVariants as int
-use Rattle.hir_types.specs.declared.ty.Ty.{Ty}
 use Rattle.hir_types.specs.declared.ty.Ty.TheVariants as ty
-use Rattle.hir_types.specs.Fallback.{fallback}
-use Rattle.hir_types.specs.Replacements.{same_assignments, replaced_var, replaced_int, replaced_int_var, folded_twice, const_folded_twice}
-use Rattle.hir_types.specs.Subst.{Assignment, composed, folded, with_holes, each_itself}
-use Rattle.hir_types.specs.Terms.{Term, hole_eq, term, IsInt, occurs}
-use Rattle.hir_types.specs.TermLaws.{term_int}
-use Rattle.infer_table.specs.declared.binding.Binding.{Binding}
+use Rattle.infer_table.specs.Own.{Binding, Substitution, bound_hole, found_binding, with_binding, MayBind, completion_of, IsResolved, IsFall, AreFalls, OnlyFalls, IsOpenInt, NoneOpenBelow, FellBack, Shape, whole, IsMadeOf, BindsOnly, resolution, single_assignment, Log, log_of, Free, IsOf, AreOf, State, bindings, IsFront, Grew, Waiting, hole_eq_same}
 use Rattle.infer_table.specs.declared.binding.Binding.TheVariants as binding
-use Rattle.infer_table.specs.Bindings.{Substitution, bound_hole, found_binding, with_binding, MayBind}
-use Rattle.infer_table.specs.Completion.{completion_of}
-use Rattle.infer_table.specs.Equating.{IsResolved}
-use Rattle.infer_table.specs.FallBack.{IsFall, AreFalls, OnlyFalls, IsOpenInt, NoneOpenBelow, FellBack}
-use Rattle.infer_table.specs.Preserved.{Shape, whole, IsMadeOf, BindsOnly}
-use Rattle.infer_table.specs.Resolution.{resolution, single_assignment}
-use Rattle.infer_table.specs.Solutions.{Log, log_of, Free, IsOf, AreOf}
-use Rattle.infer_table.specs.Table.{State, bindings, IsFront, Grew}
-use Rattle.infer_table.specs.Waiting.{Waiting}
-use Rattle.infer_table.specs.TermLemmas.{hole_eq_same}
 use Rattle.infer_table.proofs.BindingLaws.{log_of_append}
 use Rattle.infer_table.proofs.UndoLaws.{front_itself}
 use Rattle.infer_table.proofs.Unifying.{may_bind}

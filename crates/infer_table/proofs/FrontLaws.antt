@@ -2,9 +2,7 @@
 use Rattle.std.specs.Prelude.{◌≡◌, ℕ, ◌+◌, ◌<◌, ◌≤◌, ◌++◌, Bool, true, cond, List, [], ◌∷◌, length, take}
 use Rattle.std.proofs.Common.{refl, sym, ap, ◌∙◌, subst, get_or, arith}
 use Rattle.std.proofs.lemmas.List.{length-take, take_more}
-use Rattle.infer_table.specs.declared.waiting.WaitingPair.{WaitingPair}
-use Rattle.infer_table.specs.Table.{State, AllUnknown}
-use Rattle.infer_table.specs.Waiting.{Waiting, is_taken, left_from, left_before, AllTakenBelow}
+use Rattle.infer_table.specs.Own.{WaitingPair, State, AllUnknown, Waiting, is_taken, left_from, left_before, AllTakenBelow}
 use Rattle.infer_table.proofs.WaitingLaws.{taken_still, taken_other}
 
 -- one position more that is taken

@@ -4,38 +4,27 @@ use Rattle.std.specs.Bool.{Decides}
 use denote.Enum.Declared.{values_one}
 use denote.Enum.Compared.{Each}
 use denote.Enum.Bare.{same_true}
-use Rattle.hir_types.proofs.ExactEquality.{IsExactAt, AreExactAt, one_tells, by_tells, nat_tells}
-use Rattle.hir_types.specs.declared.head.Head.{Head}
+use Rattle.infer_table.proofs.Words.{IsExactAt, AreExactAt, one_tells, by_tells, nat_tells}
+use Rattle.infer_table.specs.Words.{Head, IntTy, UintTy, FloatTy, Mutability, Safety, AdtId, TraitId, TypeAliasId, OpaqueId, ClosureId, CallableDefId}
 use Rattle.hir_types.specs.declared.head.Head.TheVariants as head
 use Rattle.hir_types.specs.contracts.head.Head as the_head
 use Rattle.hir_types.specs.contracts.head.HeadPartialEq.TheImpl as head_impl
 use Rattle.hir_types.specs.contracts.head.HeadEq.TheImpl.Laws as head_equiv
-use Rattle.hir_types.specs.declared.ty.IntTy.{IntTy}
 use Rattle.hir_types.specs.contracts.ty.IntTyPartialEq.TheImpl as int_impl
 use Rattle.hir_types.specs.contracts.ty.IntTy as int
-use Rattle.hir_types.specs.declared.ty.UintTy.{UintTy}
 use Rattle.hir_types.specs.contracts.ty.UintTyPartialEq.TheImpl as uint_impl
 use Rattle.hir_types.specs.contracts.ty.UintTy as uint
-use Rattle.hir_types.specs.declared.ty.FloatTy.{FloatTy}
 use Rattle.hir_types.specs.contracts.ty.FloatTyPartialEq.TheImpl as float_impl
 use Rattle.hir_types.specs.contracts.ty.FloatTy as float
-use Rattle.hir_types.specs.declared.ty.Mutability.{Mutability}
 use Rattle.hir_types.specs.contracts.ty.MutabilityPartialEq.TheImpl as mutability_impl
 use Rattle.hir_types.specs.contracts.ty.Mutability as mutability
-use Rattle.hir_types.specs.declared.ty.Safety.{Safety}
 use Rattle.hir_types.specs.contracts.ty.SafetyPartialEq.TheImpl as safety_impl
 use Rattle.hir_types.specs.contracts.ty.Safety as safety
-use Rattle.hir_types.specs.declared.ids.AdtId.{AdtId}
 use Rattle.hir_types.specs.contracts.ids.AdtIdPartialEq.TheImpl as adt_id_impl
-use Rattle.hir_types.specs.declared.ids.TraitId.{TraitId}
 use Rattle.hir_types.specs.contracts.ids.TraitIdPartialEq.TheImpl as trait_id_impl
-use Rattle.hir_types.specs.declared.ids.TypeAliasId.{TypeAliasId}
 use Rattle.hir_types.specs.contracts.ids.TypeAliasIdPartialEq.TheImpl as alias_id_impl
-use Rattle.hir_types.specs.declared.ids.OpaqueId.{OpaqueId}
 use Rattle.hir_types.specs.contracts.ids.OpaqueIdPartialEq.TheImpl as opaque_id_impl
-use Rattle.hir_types.specs.declared.ids.ClosureId.{ClosureId}
 use Rattle.hir_types.specs.contracts.ids.ClosureIdPartialEq.TheImpl as closure_id_impl
-use Rattle.hir_types.specs.declared.ids.CallableDefId.{CallableDefId}
 use Rattle.hir_types.specs.contracts.ids.CallableDefIdPartialEq.TheImpl as callable_id_impl
 
 abbrev int_eq : IntTy → IntTy → Bool

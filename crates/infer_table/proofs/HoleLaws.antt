@@ -1,9 +1,8 @@
 -- Laws of growth: what grew twice grew, and so did a table with one hole more or one pair less.
 use Rattle.std.specs.Prelude.{◌≡◌, ◌++◌, List, [], ◌∷◌, Option, Some, None}
 use Rattle.std.proofs.Common.{refl, sym, ap, ◌∙◌, subst, append_assoc}
-use Rattle.hir_types.specs.declared.head.HoleKind.{HoleKind}
-use Rattle.infer_table.specs.declared.waiting.WaitingPair.{WaitingPair}
-use Rattle.infer_table.specs.Table.{State, with_new_hole, IsFront, Grew, TakesKnown}
+use Rattle.infer_table.specs.Words.{HoleKind}
+use Rattle.infer_table.specs.Own.{WaitingPair, State, with_new_hole, IsFront, Grew, TakesKnown}
 use Rattle.infer_table.proofs.UndoLaws.{front_itself, grew_itself}
 
 front_twice : {X : Type 0} (xs ys zs : List X) → IsFront xs ys → IsFront ys zs → IsFront xs zs

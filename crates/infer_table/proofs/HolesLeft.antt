@@ -3,19 +3,10 @@ use Rattle.std.specs.Prelude.{◌≡◌, ℕ, ◌≤◌, ◌<◌, Bool, true, fa
 use Rattle.std.proofs.Common.{◌⊎◌, inl, inr, refl, sym, ap, ◌∙◌, subst, arith, true≢false}
 use Rattle.std.proofs.lemmas.Bool.{both_ways, false_from_ne_true, or_cases, cases_lt}
 use Rattle.hir_types.specs.declared.head.Head.TheVariants as head
-use Rattle.hir_types.specs.declared.head.Hole.{Hole}
+use Rattle.infer_table.specs.Words.{Hole, Term, hole, leaf, pair, apply, occurs, hole_eq, hole_number}
 use Rattle.hir_types.specs.declared.head.Hole.TheVariants as hole_of
-use Rattle.hir_types.specs.Terms.{Term, hole, leaf, pair, apply, occurs, hole_eq, hole_number}
-use Rattle.infer_table.specs.declared.binding.Binding.{Binding}
-use Rattle.infer_table.specs.Solutions.{Log, log_of, Solves, resolved, found, binds, Free, Triangular}
-use Rattle.infer_table.specs.Bindings.{found_binding}
+use Rattle.infer_table.specs.Own.{Binding, Log, log_of, Solves, resolved, found, binds, Free, Triangular, found_binding, hole_eq_true, hole_eq_same, hole_ne, pair_left, pair_right, apply_agree, found_left, none_found, solution, solution_apply, solution_solves, solves_after, resolved_apply, resolved_open, resolved_free, opened, origins, AreOrigins, LogIsBelow, opened_bounds, GrownFrom, first_opened, second_opened, origins_of_both, IsOneOf, AreAmong, AllStand, BindsLeast, HolesAreLeft}
 use Rattle.infer_table.proofs.BindingLaws.{found_log_some}
-use Rattle.infer_table.specs.TermLemmas.{hole_eq_true, hole_eq_same, hole_ne, pair_left, pair_right, apply_agree}
-use Rattle.infer_table.specs.LogLemmas.{found_left, none_found, solution, solution_apply, solution_solves, solves_after, resolved_apply, resolved_open, resolved_free}
-use Rattle.infer_table.specs.Opened.{opened, origins}
-use Rattle.infer_table.specs.OpenedLaws.{AreOrigins, LogIsBelow, opened_bounds}
-use Rattle.infer_table.specs.Unifying.{GrownFrom}
-use Rattle.infer_table.specs.Least.{first_opened, second_opened, origins_of_both, IsOneOf, AreAmong, AllStand, BindsLeast, HolesAreLeft}
 
 -- ---- an assignment that keeps a term keeps its holes
 

@@ -2,20 +2,9 @@
 use Rattle.std.proofs.Common.{◌≡◌, ℕ, suc, ◌+◌, Bool, true, false, List, [], ◌∷◌, ◌++◌, take, drop, Some, refl, sym, subst, IsTrue, ◌↔◌}
 use Rattle.std.specs.Prelude.{slice_get}
 use Rattle.hir_types.specs.declared.head.Head.TheVariants as head
-use Rattle.hir_types.specs.declared.head.Hole.{Hole}
-use Rattle.hir_types.specs.declared.head.HoleKind.{HoleKind}
-use Rattle.hir_types.specs.declared.outline.OutlinePart.{OutlinePart}
-use Rattle.hir_types.specs.declared.ty.Ty.{Ty}
-use Rattle.hir_types.specs.Terms.{Term, hole, leaf, chain, term}
-use Rattle.hir_types.specs.Outlines.{part_term, part_terms}
-use Rattle.infer_table.specs.declared.binding.Binding.{Binding}
-use Rattle.infer_table.specs.Solutions.{log_of, IsOf, AreOf}
-use Rattle.infer_table.specs.Bindings.{AllOf}
+use Rattle.infer_table.specs.Words.{Hole, HoleKind, OutlinePart, Ty, Term, hole, leaf, chain, term, part_term, part_terms}
+use Rattle.infer_table.specs.Own.{Binding, log_of, IsOf, AreOf, AllOf, found_for, found_for_in_log, binds_of_found, are_of_hole, are_of_leaf, are_of_pair, are_of_parts, hole_eq_same, MadeIf}
 use Rattle.infer_table.proofs.BindingLaws.{binds_of_all}
-use Rattle.infer_table.specs.Resolution.{found_for, found_for_in_log}
-use Rattle.infer_table.specs.LogLemmas.{binds_of_found, are_of_hole, are_of_leaf, are_of_pair, are_of_parts}
-use Rattle.infer_table.specs.TermLemmas.{hole_eq_same}
-use Rattle.infer_table.specs.MadeTest.{MadeIf}
 use Rattle.infer_table.proofs.Unifying.{parts_until, parts_around}
 
 pub hole_made : (z : Bool) (kinds : List HoleKind) (k : Hole) → (IsTrue z ↔ IsOf kinds k) → MadeIf z kinds (hole k)

@@ -6,15 +6,9 @@ use Rattle.std.proofs.lemmas.Option.{same_Some, none-some, slice_get-map, slice_
 use Rattle.std.proofs.lemmas.List.{map_push, take_more, take_all}
 use Rattle.std.proofs.lemmas.Bool.{cases_eq}
 use Rattle.std.proofs.Math.Seq.{map-set_same}
-use Rattle.hir_types.specs.declared.head.Hole.{Hole}
-use Rattle.hir_types.specs.declared.head.HoleKind.{HoleKind}
-use Rattle.hir_types.specs.Terms.{hole_number}
-use Rattle.infer_table.specs.declared.binding.Binding.{Binding}
-use Rattle.infer_table.specs.declared.bindings.Variable.{Variable}
-use Rattle.infer_table.specs.Solutions.{Log, log_of, Triangular, hole_kind, IsOf}
-use Rattle.infer_table.specs.Bindings.{Substitution, kinds_of, bound_hole, found_binding, AllOf, IsKept, MayBind}
+use Rattle.infer_table.specs.Words.{Hole, HoleKind, hole_number}
+use Rattle.infer_table.specs.Own.{Binding, Variable, Log, log_of, Triangular, hole_kind, IsOf, Substitution, kinds_of, bound_hole, found_binding, AllOf, IsKept, MayBind, triangular_left}
 use Rattle.infer_table.proofs.BindingLaws.{get_left, get_last, get_more, get_set_same, get_set_other, get_set, get_take, get_from_take, is_of_same, found_binding_place, found_binding_none, all_of_last, all_of_left, all_of_at, all_of_more, triangular_bind, log_of_append}
-use Rattle.infer_table.specs.LogLemmas.{triangular_left}
 
 -- ---- the variable of a hole
 

@@ -18,3 +18,4 @@ pub mod UnifiedTables
 pub mod HolesMade
 pub mod WaitingCounts
 pub mod FallingBack
+pub mod Words

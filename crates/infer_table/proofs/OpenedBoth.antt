@@ -1,23 +1,8 @@
 -- Two types opened one after the other, and what unifying them comes to.
 use Rattle.std.proofs.Common.{◌≡◌, ℕ, true, ◌⊎◌, inl, inr, List, [], ◌∷◌, ◌++◌, length, refl, sym, ap, subst, ◌∙◌}
-use Rattle.hir_types.specs.declared.head.Hole.{Hole}
-use Rattle.hir_types.specs.declared.head.HoleKind.{HoleKind}
-use Rattle.hir_types.specs.Terms.{Term, apply, occurs}
-use Rattle.infer_table.specs.declared.binding.Binding.{Binding}
-use Rattle.infer_table.specs.declared.open.Origin.{Origin}
-use Rattle.infer_table.specs.Solutions.{Log, log_of, Solves, resolved, Triangular, AreOf, Unified, NoneUnifies}
-use Rattle.infer_table.specs.Bindings.{Substitution, AllOf}
+use Rattle.infer_table.specs.Words.{Hole, HoleKind, Term, apply, occurs}
+use Rattle.infer_table.specs.Own.{Binding, Origin, Log, log_of, Solves, resolved, Triangular, AreOf, Unified, NoneUnifies, Substitution, AllOf, are_of_more, resolved_free, solution, solution_respects, solution_solves, place, alias, opened, origins, AreOrigins, opened_bounds, origins_plain, AreSettled, new_kinds, OriginsOf, origins_of_more, origins_of_append, opened_of, below_of, log_below_of, origins_of, OnlyAdds, first_opened, second_opened, origins_of_both, AreAmong, AreFree, BindsSome, BindsLeast, HolesAreLeft, AreOriginsOf, UnifiesGenerally, IsUnified, GrownFrom, CanBeSame, left_opened, next_number, right_opened, can_be_same, both_agree, plain_unifies, plain_general, plain_next, cannot_be_same, resolved_grown}
 use Rattle.infer_table.proofs.BindingLaws.{log_of_append, binds_of_all}
-use Rattle.infer_table.specs.LogLemmas.{are_of_more, resolved_free, solution, solution_respects, solution_solves}
-use Rattle.infer_table.specs.Opened.{place, alias, opened, origins}
-use Rattle.infer_table.specs.OpenedLaws.{AreOrigins, opened_bounds, origins_plain}
-use Rattle.infer_table.specs.OpenedAgree.{AreSettled}
-use Rattle.infer_table.specs.OpenedKinds.{new_kinds, OriginsOf, origins_of_more, origins_of_append, opened_of, below_of, log_below_of}
-use Rattle.infer_table.specs.Opening.{origins_of}
-use Rattle.infer_table.specs.Equating.{OnlyAdds}
-use Rattle.infer_table.specs.Least.{first_opened, second_opened, origins_of_both, AreAmong, AreFree, BindsSome, BindsLeast, HolesAreLeft}
-use Rattle.infer_table.specs.Settling.{AreOriginsOf, UnifiesGenerally, IsUnified}
-use Rattle.infer_table.specs.Unifying.{GrownFrom, CanBeSame, left_opened, next_number, right_opened, can_be_same, both_agree, plain_unifies, plain_general, plain_next, cannot_be_same, resolved_grown}
 use Rattle.infer_table.proofs.HolesLeft.{holes_left}
 
 -- ---- aliases

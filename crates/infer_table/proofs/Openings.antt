@@ -2,16 +2,9 @@
 use Rattle.std.specs.Prelude.{◌≡◌, ℕ, ◌+◌, ◌<◌, List, [], ◌∷◌, ◌++◌, length, map, Option}
 use Rattle.std.proofs.Common.{sym, ap, ◌∙◌, subst, get_or, take}
 use Rattle.std.proofs.lemmas.List.{take_more}
-use Rattle.hir_types.specs.declared.head.HoleKind.{HoleKind}
-use Rattle.hir_types.specs.declared.ids.TraitId.{TraitId}
-use Rattle.hir_types.specs.declared.ty.Ty.{Ty}
+use Rattle.infer_table.specs.Words.{HoleKind, TraitId, Ty, GenericArg, TraitRef, AliasBound, Term, term, arg_term, parts_of_types}
 use Rattle.hir_types.specs.declared.ty.Ty.TheVariants as ty
-use Rattle.hir_types.specs.declared.ty.GenericArg.{GenericArg}
-use Rattle.hir_types.specs.declared.ty.TraitRef.{TraitRef}
-use Rattle.hir_types.specs.declared.ty.AliasBound.{AliasBound}
-use Rattle.hir_types.specs.Terms.{Term, term, arg_term}
-use Rattle.hir_types.specs.TermLaws.{parts_of_types}
-use Rattle.infer_table.specs.OpenedLists.{Opens, OpensParts, principal_terms, bounds_terms, types_push, args_push, bounds_push, opens_dynamic}
+use Rattle.infer_table.specs.Own.{Opens, OpensParts, principal_terms, bounds_terms, types_push, args_push, bounds_push, opens_dynamic}
 
 -- ---- one more of a list
 

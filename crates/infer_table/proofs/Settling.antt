@@ -2,24 +2,11 @@
 use Rattle.std.proofs.Common.{◌≡◌, ℕ, zero, suc, ◌+◌, true, List, [], ◌∷◌, ◌++◌, take, Some, None, inl, inr, refl, sym, ap, subst, ◌∙◌, arith}
 use Rattle.std.specs.Prelude.{slice_get}
 use Rattle.hir_types.specs.declared.head.Hole.TheVariants as hole_of
-use Rattle.hir_types.specs.declared.head.HoleKind.{HoleKind}
+use Rattle.infer_table.specs.Words.{HoleKind, Term, hole, apply, occurs, term, term_var}
 use Rattle.hir_types.specs.declared.ty.Ty.TheVariants as ty
-use Rattle.hir_types.specs.Terms.{Term, hole, apply, occurs, term}
-use Rattle.hir_types.specs.TermLaws.{term_var}
-use Rattle.infer_table.specs.declared.binding.Binding.{Binding}
-use Rattle.infer_table.specs.declared.open.Origin.{Origin}
-use Rattle.infer_table.specs.Solutions.{Log, log_of, single, resolved, found, Triangular, Unified}
-use Rattle.infer_table.specs.Bindings.{Substitution, with_binding, bound_hole, bound_term, found_binding}
+use Rattle.infer_table.specs.Own.{Binding, Origin, Log, log_of, single, resolved, found, Triangular, Unified, Substitution, with_binding, bound_hole, bound_term, found_binding, place, alias, IsSettled, AreSettled, IsNoTypeHole, settled_inside, settled_here, settle_step, settled_append, origins_of, IsOpenHole, IsResolved, IsOneOf, CanBeAnything, BindsSome, solution, solution_solves, solves_after, resolved_apply, resolved_open, sub_same, Settled, SettlesOrigin, IsOriginOf, AreOriginsOf}
 use Rattle.infer_table.proofs.BindingLaws.{log_of_last, found_log_none}
-use Rattle.infer_table.specs.Opened.{place, alias}
-use Rattle.infer_table.specs.OpenedAgree.{IsSettled, AreSettled, IsNoTypeHole, settled_inside, settled_here, settle_step, settled_append}
-use Rattle.infer_table.specs.Opening.{origins_of}
-use Rattle.infer_table.specs.Equating.{IsOpenHole, IsResolved}
-use Rattle.infer_table.specs.Least.{IsOneOf, CanBeAnything, BindsSome}
-use Rattle.infer_table.specs.LogLemmas.{solution, solution_solves, solves_after, resolved_apply, resolved_open}
-use Rattle.infer_table.specs.TermLemmas.{sub_same}
 use Rattle.infer_table.proofs.UnifyLaws.{unified_bind, unified_if_put_in_left}
-use Rattle.infer_table.specs.Settling.{Settled, SettlesOrigin, IsOriginOf, AreOriginsOf}
 use Rattle.infer_table.proofs.Unifying.{resolved_hole}
 
 pub settles_stands : (s : Substitution) (k : ℕ) (t u : Term) → u ≡ resolved (log_of s.log) t → occurs (hole_of.Ty k) u ≡ true → Settled s s k t

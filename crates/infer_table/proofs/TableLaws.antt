@@ -4,23 +4,10 @@ use Rattle.std.proofs.Common.{refl, sym, ap, ◌∙◌, subst, get_or, arith, tr
 use Rattle.std.proofs.lemmas.Bool.{false≢true}
 use Rattle.std.proofs.lemmas.List.{append-nil, length-take, take_more}
 use Rattle.std.proofs.lemmas.Option.{same_Some, slice_get_within, slice_get-get_or}
-use Rattle.hir_types.specs.declared.head.HoleKind.{HoleKind}
-use Rattle.hir_types.specs.declared.ty.Ty.{Ty, Ty-F, roll-Ty, out-Ty, out-roll-Ty, roll-out-Ty}
+use Rattle.infer_table.specs.Words.{HoleKind, Ty, Ty-F, roll-Ty, out-Ty, out-roll-Ty, roll-out-Ty, GenericArg, AliasBound, TraitRef, in_ty, replaced_var, replaced_int_var, with_holes, folded, terms, term_at, term_var, term_int_var, term_folded, apply, term, terms_of, ty_step}
 use Rattle.hir_types.specs.declared.ty.Ty.TheVariants as ty
-use Rattle.hir_types.specs.declared.ty.GenericArg.{GenericArg}
-use Rattle.hir_types.specs.declared.ty.AliasBound.{AliasBound}
-use Rattle.hir_types.specs.declared.ty.TraitRef.{TraitRef}
-use Rattle.hir_types.specs.Folds.{in_ty}
-use Rattle.hir_types.specs.Replacements.{replaced_var, replaced_int_var}
-use Rattle.hir_types.specs.Subst.{with_holes, folded}
-use Rattle.hir_types.specs.TermLaws.{terms, term_at, term_var, term_int_var, term_folded}
-use Rattle.hir_types.specs.Terms.{apply, term, terms_of, ty_step}
-use Rattle.infer_table.specs.declared.binding.Binding.{Binding}
-use Rattle.infer_table.specs.declared.waiting.WaitingPair.{WaitingPair}
+use Rattle.infer_table.specs.Own.{Binding, WaitingPair, resolution, IsOpenOrKnown, open_var, open_int_var, State, bindings, resolved_type, resolved_term, PairIsOf, PairsAreOf, is_type_hole, IsNoOpenHole, IsUnknownPair, AllUnknown, IsFirstKnown, TakesFirstKnown, Waiting, is_taken, left_from, left_at, left_before, left_past, with_taken}
 use Rattle.infer_table.proofs.BindingLaws.{are_of_last}
-use Rattle.infer_table.specs.Resolution.{resolution, IsOpenOrKnown, open_var, open_int_var}
-use Rattle.infer_table.specs.Table.{State, bindings, resolved_type, resolved_term, PairIsOf, PairsAreOf, is_type_hole, IsNoOpenHole, IsUnknownPair, AllUnknown, IsFirstKnown, TakesFirstKnown}
-use Rattle.infer_table.specs.Waiting.{Waiting, is_taken, left_from, left_at, left_before, left_past, with_taken}
 use Rattle.infer_table.proofs.WaitingLaws.{left_from-push, IsLeft-from_some, waiting-at, waiting-with_taken}
 
 -- ---- whose holes are in the pairs

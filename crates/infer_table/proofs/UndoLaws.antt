@@ -3,18 +3,9 @@ use Rattle.std.proofs.Common.{◌≡◌, ℕ, zero, suc, ◌<◌, ◌≤◌, Boo
 use Rattle.std.specs.Prelude.{slice_get}
 use Rattle.std.proofs.lemmas.Option.{slice_get_within}
 use Rattle.std.proofs.Math.Seq.{take-append_seam}
-use Rattle.infer_table.specs.declared.snapshot.Snapshot.{Snapshot}
-use Rattle.infer_table.specs.declared.waiting.WaitingPair.{WaitingPair}
-use Rattle.infer_table.specs.Waiting.{Waiting, cut_back, is_taken}
-use Rattle.hir_types.specs.declared.head.Hole.{Hole}
-use Rattle.hir_types.specs.declared.head.HoleKind.{HoleKind}
-use Rattle.hir_types.specs.Terms.{hole_number, occurs}
-use Rattle.infer_table.specs.declared.binding.Binding.{Binding}
-use Rattle.infer_table.specs.Solutions.{IsOf, hole_kind}
-use Rattle.infer_table.specs.Bindings.{AllOf, bound_hole, bound_term}
+use Rattle.infer_table.specs.Own.{Snapshot, WaitingPair, Waiting, cut_back, is_taken, Binding, IsOf, hole_kind, AllOf, bound_hole, bound_term, AreUnusedFrom, PairsAreOf, hole_count, State, IsFront, Grew, GrewFrom, Undoes, bindings}
+use Rattle.infer_table.specs.Words.{Hole, HoleKind, hole_number, occurs}
 use Rattle.infer_table.proofs.BindingLaws.{all_of_at}
-use Rattle.infer_table.specs.Undo.{AreUnusedFrom}
-use Rattle.infer_table.specs.Table.{PairsAreOf, hole_count, State, IsFront, Grew, GrewFrom, Undoes, bindings}
 
 pub front_itself : {X : Type 0} (xs : List X) → IsFront xs xs
 front_itself xs = ([], sym (append-nil xs))

@@ -1,19 +1,8 @@
 -- What unifying comes to for a table.
 use Rattle.std.proofs.Common.{◌≡◌, Bool, true, false, List, [], ◌∷◌, ◌++◌, sym, ap, subst}
-use Rattle.hir_types.specs.declared.head.HoleKind.{HoleKind}
-use Rattle.hir_types.specs.declared.ty.Ty.{Ty}
-use Rattle.hir_types.specs.Terms.{Term, term}
-use Rattle.infer_table.specs.declared.waiting.WaitingPair.{WaitingPair}
-use Rattle.infer_table.specs.Solutions.{log_of, resolved}
-use Rattle.infer_table.specs.Bindings.{Substitution}
-use Rattle.infer_table.specs.LogLemmas.{are_of_more}
-use Rattle.infer_table.specs.Resolution.{resolution_term}
-use Rattle.infer_table.specs.Opened.{Agree, IsPlain, IsReadAs}
-use Rattle.infer_table.specs.Least.{number_after_both, BindsLeast, HolesAreLeft}
+use Rattle.infer_table.specs.Words.{HoleKind, Ty, Term, term}
+use Rattle.infer_table.specs.Own.{WaitingPair, log_of, resolved, Substitution, are_of_more, resolution_term, Agree, IsPlain, IsReadAs, number_after_both, BindsLeast, HolesAreLeft, OnlyGrows, IsUnified, UnifiesOrStays, CanBeSame, State, IsFront, PairsAreOf, hole_count, bindings, resolved_term, HolesAreKept, CanBeEqual, AreUnified, AreUnifiedIf, IsMostGeneral}
 use Rattle.infer_table.specs.Settling as settling
-use Rattle.infer_table.specs.Settling.{OnlyGrows, IsUnified, UnifiesOrStays}
-use Rattle.infer_table.specs.Unifying.{CanBeSame}
-use Rattle.infer_table.specs.Table.{State, IsFront, PairsAreOf, hole_count, bindings, resolved_term, HolesAreKept, CanBeEqual, AreUnified, AreUnifiedIf, IsMostGeneral}
 use Rattle.infer_table.proofs.UndoLaws.{front_itself}
 
 -- ---- kinds

@@ -1,12 +1,8 @@
 -- What each step of unification comes to.
 use Rattle.std.specs.Prelude.{◌≡◌, Bool, true, false, List, [], ◌∷◌, ◌++◌, length}
 use Rattle.std.proofs.Common.{refl, sym, ap, ap₂, ◌∙◌, append_assoc, append-nil}
-use Rattle.hir_types.specs.declared.head.Head.{Head}
-use Rattle.hir_types.specs.declared.head.Hole.{Hole}
-use Rattle.hir_types.specs.Terms.{Term, hole, leaf, pair, apply, occurs, chain, node}
-use Rattle.infer_table.specs.Solutions.{Log, resolved, Solves, Unified, NoneUnifies, UnifiedIf}
-use Rattle.infer_table.specs.TermLemmas.{pair_left, pair_right, leaf_head, IsNoHole, occurs_within, chain_length, chain_split, chain_join, chain_last}
-use Rattle.infer_table.specs.LogLemmas.{resolved_apply, solves_left, solves_right, solves_append}
+use Rattle.infer_table.specs.Words.{Head, Hole, Term, hole, leaf, pair, apply, occurs, chain, node}
+use Rattle.infer_table.specs.Own.{Log, resolved, Solves, Unified, NoneUnifies, UnifiedIf, pair_left, pair_right, leaf_head, IsNoHole, occurs_within, chain_length, chain_split, chain_join, chain_last, resolved_apply, solves_left, solves_right, solves_append}
 
 -- ---- terms that the solutions of the bindings do not tell apart
 

@@ -3,27 +3,11 @@ use Rattle.std.specs.Prelude.{◌≡◌, ℕ, zero, suc, ◌+◌, ◌≤◌, Boo
 use Rattle.std.proofs.Common.{◌⊎◌, inl, inr, refl, sym, ap, ap₂, ◌∙◌, subst, arith, append_assoc, append-nil, true≢false}
 use Rattle.std.proofs.lemmas.List.{take_all}
 use Rattle.std.proofs.lemmas.Bool.{false≢true, both_ways, or_left, or_right, or_parts, or_from}
-use Rattle.hir_types.specs.declared.head.Head.{Head}
+use Rattle.infer_table.specs.Words.{Head, Hole, HoleKind, Const, Ty, Ty-F, out-Ty, roll-out-Ty, OutlinePart, in_ty, folded, Term, hole, occurs, hole_eq, chain, node, const_term, term, ty_step, terms, term_at, part_term, part_terms}
 use Rattle.hir_types.specs.declared.head.Head.TheVariants as head
-use Rattle.hir_types.specs.declared.head.Hole.{Hole}
-use Rattle.hir_types.specs.declared.head.HoleKind.{HoleKind}
-use Rattle.hir_types.specs.declared.ty.Const.{Const}
 use Rattle.hir_types.specs.declared.ty.Const.TheVariants as const
-use Rattle.hir_types.specs.declared.ty.Ty.{Ty, Ty-F, out-Ty, roll-out-Ty}
-use Rattle.hir_types.specs.declared.outline.OutlinePart.{OutlinePart}
-use Rattle.hir_types.specs.Folds.{in_ty}
-use Rattle.hir_types.specs.Subst.{folded}
-use Rattle.hir_types.specs.Terms.{Term, hole, occurs, hole_eq, chain, node, const_term, term, ty_step}
-use Rattle.hir_types.specs.TermLaws.{terms, term_at}
-use Rattle.hir_types.specs.Outlines.{part_term, part_terms}
-use Rattle.infer_table.specs.declared.binding.Binding.{Binding}
-use Rattle.infer_table.specs.Solutions.{Log, log_of, resolved, binds, IsIntHole, Triangular, Free, Kept, IsOf, AreOf, Unified, NoneUnifies, UnifiedIf}
-use Rattle.infer_table.specs.Bindings.{Substitution, bound_hole, bound_term, found_binding, with_binding, AllOf, MayBind, IsTypeHole}
-use Rattle.infer_table.specs.Equating.{OnlyAdds, IsOpenHole, IsResolved, IsHeaded}
-use Rattle.infer_table.specs.TermLemmas.{hole_eq_true, hole_eq_same, hole_eq_flip, hole_ne, hole_same, hole_respects, pair_right, IsNoHole}
-use Rattle.infer_table.specs.LogLemmas.{found_binds, found_none as unbound, resolved_fixed, resolved_free}
+use Rattle.infer_table.specs.Own.{Binding, Log, log_of, resolved, binds, IsIntHole, Triangular, Free, Kept, IsOf, AreOf, Unified, NoneUnifies, UnifiedIf, Substitution, bound_hole, bound_term, found_binding, with_binding, AllOf, MayBind, IsTypeHole, OnlyAdds, IsOpenHole, IsResolved, IsHeaded, hole_eq_true, hole_eq_same, hole_eq_flip, hole_ne, hole_same, hole_respects, pair_right, IsNoHole, found_binds, found_none as unbound, resolved_fixed, resolved_free, resolution, resolution_term}
 use Rattle.infer_table.proofs.BindingLaws.{found_log_some, found_log_none, log_of_last, resolved_made}
-use Rattle.infer_table.specs.Resolution.{resolution, resolution_term}
 use Rattle.infer_table.proofs.UnifyLaws.{unified_bind, unified_if_node, unified_flip, unified_equal, unified_if_flip, unified_if_put_in, unified_if_put_in_left, unified_if_put_in_right, none_occurs, none_nodes, unified_chain_more, none_chain_more, none_chain_length}
 
 -- ---- bindings that are added

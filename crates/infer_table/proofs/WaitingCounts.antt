@@ -1,7 +1,6 @@
 -- How many pairs wait.
 use Rattle.std.proofs.Common.{ℕ, ◌≤◌, ◌+◌, arith, Bool, true, false, cond, List, [], ◌∷◌, length}
-use Rattle.infer_table.specs.declared.waiting.WaitingPair.{WaitingPair}
-use Rattle.infer_table.specs.Waiting.{Waiting, is_taken, left_from, waiting}
+use Rattle.infer_table.specs.Own.{WaitingPair, Waiting, is_taken, left_from, waiting}
 
 one_maybe : (b : Bool) (p : WaitingPair) (xs : List WaitingPair) (n : ℕ) → length xs ≤ n → length (cond b xs (p ∷ xs)) ≤ n + 1
 one_maybe true p xs n h = omega arith

@@ -4,9 +4,7 @@ use Rattle.std.specs.Option.{IsSome}
 use Rattle.std.proofs.lemmas.Bool.{false≢true, true≢false, ne_eqb, eq-eqb, eqb-false, cases_eq, cond-true, cond-false, false_from_ne_true}
 use Rattle.std.proofs.lemmas.List.{drop_more, take_more, take_all, length-map, length-set, length-take, get_or-map}
 use Rattle.std.proofs.lemmas.Option.{slice_get_within, slice_get-get_or, none-some}
-use Rattle.infer_table.specs.declared.waiting.WaitingPair.{WaitingPair}
-use Rattle.infer_table.specs.declared.waiting.Entry.{Entry}
-use Rattle.infer_table.specs.Waiting.{Waiting, pairs_of, is_taken, left_from, waiting, AllApart, AreMarked, with_pair, with_taken, AllMade, left_at, left_before, left_past, StillWaits}
+use Rattle.infer_table.specs.Own.{WaitingPair, Entry, Waiting, pairs_of, is_taken, left_from, waiting, AllApart, AreMarked, with_pair, with_taken, AllMade, left_at, left_before, left_past, StillWaits}
 
 or_more : (b x y : Bool) → (x ≡ true → y ≡ true) → cond b true x ≡ true → cond b true y ≡ true
 or_more true x y f h = refl

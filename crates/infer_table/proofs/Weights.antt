@@ -2,10 +2,8 @@
 use Rattle.std.specs.Prelude.{◌≡◌, ℕ, ◌+◌, ◌<◌, Bool, true, false, if◌then◌else◌, cond, [], ◌∷◌, Option, Some}
 use Rattle.std.proofs.Common.{◌⊎◌, inl, inr, refl, sym, ap, ap₂, ◌∙◌, subst, arith}
 use Rattle.std.proofs.lemmas.Bool.{or_parts}
-use Rattle.hir_types.specs.declared.head.Hole.{Hole}
-use Rattle.hir_types.specs.Terms.{Term, hole, leaf, pair, occurs, hole_eq}
-use Rattle.infer_table.specs.Solutions.{Log, found, Absent, Triangular}
-use Rattle.infer_table.specs.TermLemmas.{hole_eq_flip}
+use Rattle.infer_table.specs.Words.{Hole, Term, hole, leaf, pair, occurs, hole_eq}
+use Rattle.infer_table.specs.Own.{Log, found, Absent, Triangular, hole_eq_flip}
 
 -- the steps that putting every binding in takes
 abbrev pub total : (Hole → ℕ) → Term → ℕ

@@ -1,9 +1,7 @@
 -- Holes that were made, and what they are bound to.
 use Rattle.std.specs.Prelude.{◌≡◌, ℕ, false, if◌then◌else◌, List, [], ◌∷◌, Option, Some, None, slice_get, map, ◌++◌}
-use Rattle.hir_types.specs.declared.head.Hole.{Hole}
+use Rattle.infer_table.specs.Words.{Hole, HoleKind, Term, hole_eq, hole_number, occurs, term, const_term}
 use Rattle.hir_types.specs.declared.head.Hole.TheVariants as hole_of
-use Rattle.hir_types.specs.declared.head.HoleKind.{HoleKind}
-use Rattle.hir_types.specs.Terms.{Term, hole_eq, hole_number, occurs, term, const_term}
 use Rattle.infer_table.specs.declared.binding.Binding.{Binding}
 use Rattle.infer_table.specs.declared.binding.Binding.TheVariants as binding
 use Rattle.infer_table.specs.declared.bindings.Variable.{Variable}

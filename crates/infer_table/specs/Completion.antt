@@ -1,7 +1,6 @@
 -- All that is known put in, and what open holes fall back to for the rest.
 use Rattle.std.specs.Prelude.{List}
-use Rattle.hir_types.specs.Subst.{Assignment, composed}
-use Rattle.hir_types.specs.Fallback.{fallback}
+use Rattle.infer_table.specs.Words.{Assignment, composed, fallback}
 use Rattle.infer_table.specs.declared.binding.Binding.{Binding}
 use Rattle.infer_table.specs.Resolution.{resolution}
 use Rattle.infer_table.specs.Table.{State, bindings}

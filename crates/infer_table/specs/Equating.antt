@@ -1,8 +1,6 @@
 -- What making two types equal does to the bindings.
 use Rattle.std.specs.Prelude.{◌≡◌, ◌++◌, List, None}
-use Rattle.hir_types.specs.declared.head.Head.{Head}
-use Rattle.hir_types.specs.declared.head.Hole.{Hole}
-use Rattle.hir_types.specs.Terms.{Term, leaf, pair}
+use Rattle.infer_table.specs.Words.{Head, Hole, Term, leaf, pair}
 use Rattle.infer_table.specs.declared.binding.Binding.{Binding}
 use Rattle.infer_table.specs.Solutions.{log_of, Free, IsOf, AreOf}
 use Rattle.infer_table.specs.Bindings.{Substitution, found_binding, IsTypeHole}

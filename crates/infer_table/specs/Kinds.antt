@@ -1,6 +1,5 @@
 -- Assignments that keep the kinds of holes.
-use Rattle.hir_types.specs.Subst.{Assignment, composed}
-use Rattle.hir_types.specs.Terms.{terms_of}
+use Rattle.infer_table.specs.Words.{Assignment, composed, terms_of}
 use Rattle.infer_table.specs.Solutions.{Respects}
 
 -- where the assignments f and g have integer types, or holes of these, stand for integer holes, so has first g, then f

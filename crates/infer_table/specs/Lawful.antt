@@ -1,5 +1,5 @@
 -- What is known of each table.
-use Rattle.hir_types.specs.Terms.{terms_of}
+use Rattle.infer_table.specs.Words.{terms_of}
 use Rattle.infer_table.specs.Bindings.{AllOf}
 use Rattle.infer_table.specs.Completion.{completion}
 use Rattle.infer_table.specs.Solutions.{Respects}

@@ -1,9 +1,8 @@
 -- The least that makes two terms equal, with aliases and `{unknown}` in them: what is bound, and what holes are left.
 use Rattle.std.specs.Prelude.{◌≡◌, ℕ, ◌≤◌, true, List, [], ◌∷◌, ◌++◌, None}
 use Rattle.std.proofs.Common.{◌⊎◌}
-use Rattle.hir_types.specs.declared.head.Hole.{Hole}
+use Rattle.infer_table.specs.Words.{Hole, Term, hole_number, apply, occurs}
 use Rattle.hir_types.specs.declared.head.Hole.TheVariants as hole_of
-use Rattle.hir_types.specs.Terms.{Term, hole_number, apply, occurs}
 use Rattle.infer_table.specs.declared.binding.Binding.{Binding}
 use Rattle.infer_table.specs.Solutions.{Log, Solves}
 use Rattle.infer_table.specs.Bindings.{found_binding}

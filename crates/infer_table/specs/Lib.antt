@@ -22,3 +22,5 @@ pub mod MadeTest
 pub mod Preserved
 pub mod Kinds
 pub mod Lawful
+pub mod Words
+pub mod Own

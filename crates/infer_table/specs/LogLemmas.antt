@@ -3,10 +3,7 @@ use Rattle.std.specs.Prelude.{◌≡◌, ℕ, zero, suc, Bool, true, false, cond
 use Rattle.std.proofs.Common.{◌⊎◌, inl, inr, refl, sym, ap, ap₂, ◌∙◌, subst, true≢false}
 use Rattle.std.proofs.lemmas.Bool.{both_ways, or_cases, or_parts, or_left, or_right, false_from_ne_true}
 use Rattle.std.proofs.lemmas.Option.{same_Some}
-use Rattle.hir_types.specs.declared.head.Head.{Head}
-use Rattle.hir_types.specs.declared.head.Hole.{Hole}
-use Rattle.hir_types.specs.declared.head.HoleKind.{HoleKind}
-use Rattle.hir_types.specs.Terms.{Term, hole, leaf, pair, apply, occurs, hole_eq, hole_number, IsInt}
+use Rattle.infer_table.specs.Words.{Head, Hole, HoleKind, Term, hole, leaf, pair, apply, occurs, hole_eq, hole_number, IsInt}
 use Rattle.infer_table.specs.Solutions.{Log, single, sub, resolved, found, binds, Solves, Respects, Kept, Absent, Triangular, Free, hole_kind, IsOf, AreOf}
 use Rattle.infer_table.specs.TermLemmas.{hole_eq_true, hole_eq_same, hole_eq_flip, apply_apply, apply_sub, sub_absent, sub_same, sub_gone, sub_holes, sub_without, single_respects, is_int_apply, hole_respects}
 

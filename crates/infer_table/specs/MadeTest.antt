@@ -1,8 +1,6 @@
 -- Whether the holes of a term were made, as a test.
 use Rattle.std.specs.Prelude.{Bool, true, false, List}
-use Rattle.hir_types.specs.declared.head.HoleKind.{HoleKind}
-use Rattle.hir_types.specs.declared.ty.Ty.{Ty}
-use Rattle.hir_types.specs.Terms.{Term}
+use Rattle.infer_table.specs.Words.{HoleKind, Ty, Term}
 use Rattle.infer_table.specs.Solutions.{AreOf}
 use Rattle.infer_table.specs.Table.{State, HolesAreOf}
 

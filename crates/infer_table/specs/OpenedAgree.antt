@@ -1,9 +1,8 @@
 -- When two terms agree but for aliases and unknowns: from equal opened terms, where each alias is settled.
 use Rattle.std.proofs.Common.{◌≡◌, ℕ, Bool, true, false, cond, ◌⊎◌, inl, inr, List, [], ◌∷◌, ◌++◌, refl, sym, ap, ◌∙◌, subst, eq-eqb}
 use Rattle.std.proofs.lemmas.Bool.{or_cases, or_left, or_right}
-use Rattle.hir_types.specs.declared.head.Hole.{Hole}
+use Rattle.infer_table.specs.Words.{Hole, Term, hole, leaf, pair, occurs, hole_eq}
 use Rattle.hir_types.specs.declared.head.Hole.TheVariants as hole_of
-use Rattle.hir_types.specs.Terms.{Term, hole, leaf, pair, occurs, hole_eq}
 use Rattle.infer_table.specs.Solutions.{Log, resolved, sub}
 use Rattle.infer_table.specs.Opened.{Place, plain, alias, unknown_type, unknown_const, place, opened, origins, MayDifferFrom, MayDiffer, Agree}
 use Rattle.infer_table.specs.OpenedLaws.{opened_at, origins_at, place_leaf}

@@ -4,9 +4,8 @@ use Rattle.std.proofs.Common.{refl, ap, ◌∙◌, subst, arith}
 use Rattle.std.proofs.lemmas.List.{length-append}
 use Rattle.std.proofs.lemmas.Option.{slice_get_within}
 use Rattle.hir_types.specs.declared.head.Hole.TheVariants as hole_of
-use Rattle.hir_types.specs.declared.head.HoleKind.{HoleKind}
+use Rattle.infer_table.specs.Words.{HoleKind, Term, hole, leaf, pair, hole_number}
 use Rattle.hir_types.specs.declared.head.HoleKind.TheVariants as kind
-use Rattle.hir_types.specs.Terms.{Term, hole, leaf, pair, hole_number}
 use Rattle.infer_table.specs.Solutions.{Log, IsOf, AreOf, hole_kind}
 use Rattle.infer_table.specs.Opened.{Place, plain, alias, unknown_type, unknown_const, place, opened, origins}
 use Rattle.infer_table.specs.LogLemmas.{BindsOf, is_of_more, are_of_more, are_of_hole, are_of_pair, are_of_parts}

@@ -1,11 +1,9 @@
 -- Terms with holes in the places of aliases and unknowns: bounds, plainness, readings.
 use Rattle.std.proofs.Common.{◌≡◌, ℕ, ◌+◌, ◌<◌, ◌≤◌, true, cond, ◌⊎◌, inl, inr, List, [], ◌∷◌, ◌++◌, refl, sym, ap, ap₂, ◌∙◌, subst, arith, eq-eqb}
 use Rattle.std.proofs.lemmas.Bool.{or_cases, or_left, or_right}
-use Rattle.hir_types.specs.declared.head.Head.{Head}
+use Rattle.infer_table.specs.Words.{Head, Hole, Term, hole, leaf, pair, apply, occurs, hole_eq, hole_number, IsInt}
 use Rattle.hir_types.specs.declared.head.Head.TheVariants as head
-use Rattle.hir_types.specs.declared.head.Hole.{Hole}
 use Rattle.hir_types.specs.declared.head.Hole.TheVariants as hole_of
-use Rattle.hir_types.specs.Terms.{Term, hole, leaf, pair, apply, occurs, hole_eq, hole_number, IsInt}
 use Rattle.infer_table.specs.Solutions.{Log, Solves, Respects, IsIntHole, NoneUnifies}
 use Rattle.infer_table.specs.TermLemmas.{hole_eq_true, hole_eq_same, hole_ne, apply_agree}
 use Rattle.infer_table.specs.Opened.{Place, plain, alias, unknown_type, unknown_const, place, IsPlain, IsReadAs, opened, origins}

@@ -4,25 +4,11 @@ use Rattle.std.specs.Option.{option_map}
 use Rattle.std.specs.List.{flat_map}
 use Rattle.std.proofs.Common.{refl, sym, ap, ◌∙◌, subst}
 use Rattle.std.proofs.lemmas.List.{map_push}
-use Rattle.hir_types.specs.declared.ids.AdtId.{AdtId}
-use Rattle.hir_types.specs.declared.ids.CallableDefId.{CallableDefId}
-use Rattle.hir_types.specs.declared.ids.ClosureId.{ClosureId}
-use Rattle.hir_types.specs.declared.ids.TraitId.{TraitId}
-use Rattle.hir_types.specs.declared.ids.TypeAliasId.{TypeAliasId}
-use Rattle.hir_types.specs.declared.head.Head.{Head}
+use Rattle.infer_table.specs.Words.{AdtId, CallableDefId, ClosureId, TraitId, TypeAliasId, Head, HoleKind, Const, Safety, Ty, GenericArg, TraitRef, AliasBound, Term, leaf, pair, chain, node, const_term, type_part, const_part, principal_parts, auto_parts, term, arg_term, trait_parts, bound_parts, parts_of_types, term_tuple, term_array, term_adt, term_fn_def, term_associated_type, term_fn_ptr, term_closure, term_dynamic, arg_term_const, bound_parts_is}
 use Rattle.hir_types.specs.declared.head.Head.TheVariants as head
-use Rattle.hir_types.specs.declared.head.HoleKind.{HoleKind}
 use Rattle.hir_types.specs.declared.head.HoleKind.TheVariants as kind
-use Rattle.hir_types.specs.declared.ty.Const.{Const}
-use Rattle.hir_types.specs.declared.ty.Safety.{Safety}
-use Rattle.hir_types.specs.declared.ty.Ty.{Ty}
 use Rattle.hir_types.specs.declared.ty.Ty.TheVariants as ty
-use Rattle.hir_types.specs.declared.ty.GenericArg.{GenericArg}
 use Rattle.hir_types.specs.declared.ty.GenericArg.TheVariants as arg
-use Rattle.hir_types.specs.declared.ty.TraitRef.{TraitRef}
-use Rattle.hir_types.specs.declared.ty.AliasBound.{AliasBound}
-use Rattle.hir_types.specs.Terms.{Term, leaf, pair, chain, node, const_term, type_part, const_part, principal_parts, auto_parts, term, arg_term, trait_parts, bound_parts}
-use Rattle.hir_types.specs.TermLaws.{parts_of_types, term_tuple, term_array, term_adt, term_fn_def, term_associated_type, term_fn_ptr, term_closure, term_dynamic, arg_term_const, bound_parts_is}
 use Rattle.infer_table.specs.Opened.{Place, plain, alias, unknown_type, unknown_const, place, opened, origins}
 use Rattle.infer_table.specs.OpenedLaws.{opened_at, origins_at}
 use Rattle.infer_table.specs.OpenedKinds.{new_kinds}

@@ -1,8 +1,7 @@
 -- What opening a type does to a table and to a list of origins.
 use Rattle.std.specs.Prelude.{◌≡◌, ℕ, List, [], ◌∷◌, ◌++◌, map}
 use Rattle.std.proofs.Common.{refl, ap, ◌∙◌}
-use Rattle.hir_types.specs.declared.head.HoleKind.{HoleKind}
-use Rattle.hir_types.specs.Terms.{Term, term}
+use Rattle.infer_table.specs.Words.{HoleKind, Term, term}
 use Rattle.infer_table.specs.declared.open.Origin.{Origin}
 use Rattle.infer_table.specs.Bindings.{Substitution}
 

@@ -3,13 +3,8 @@
 use Rattle.std.proofs.Common.{◌≡◌, ℕ, suc, Bool, true, false, cond, if◌then◌else◌, List, [], ◌∷◌, IsTrue, refl, sym, ap, ap₂, subst, ◌∙◌}
 use Rattle.std.proofs.lemmas.Bool.{both_ways}
 use Rattle.std.proofs.lemmas.List.{map-append}
-use Rattle.hir_types.specs.declared.head.Head.{Head}
+use Rattle.infer_table.specs.Words.{Head, Hole, OpaqueId, TypeAliasId, Ty, Term, hole, leaf, pair, apply, hole_eq, term}
 use Rattle.hir_types.specs.declared.head.Head.TheVariants as head
-use Rattle.hir_types.specs.declared.head.Hole.{Hole}
-use Rattle.hir_types.specs.declared.ids.OpaqueId.{OpaqueId}
-use Rattle.hir_types.specs.declared.ids.TypeAliasId.{TypeAliasId}
-use Rattle.hir_types.specs.declared.ty.Ty.{Ty}
-use Rattle.hir_types.specs.Terms.{Term, hole, leaf, pair, apply, hole_eq, term}
 use Rattle.infer_table.specs.declared.binding.Binding.{Binding}
 use Rattle.infer_table.specs.Solutions.{Log, single, sub, resolved, Solves, Respects, log_of}
 use Rattle.infer_table.specs.LogLemmas.{solves_left, resolved_apply}

@@ -1,20 +1,10 @@
 -- What bindings come to: each hole with what it is bound to in the end.
 use Rattle.std.specs.Prelude.{◌≡◌, ℕ, Bool, true, false, nat_eq, if◌then◌else◌, cond, List, [], ◌∷◌, Option, Some, None}
 use Rattle.std.proofs.Common.{◌⊎◌, inl, inr, refl, sym, ap, ◌∙◌, subst, true≢false}
-use Rattle.hir_types.specs.declared.head.Hole.{Hole}
+use Rattle.infer_table.specs.Words.{Hole, Const, Ty, Ty-F, roll-Ty, out-Ty, out-roll-Ty, roll-out-Ty, GenericArg, AliasBound, TraitRef, Assignment, with_holes, each_itself, composed, folded, const_folded, Term, hole, apply, occurs, hole_eq, term, const_term, terms_of, replaced_var, replaced_int_var, folded_twice, const_folded_twice, term_var, term_int_var, term_folded, const_term_folded, SameAt, folded_absent, const_folded_absent}
 use Rattle.hir_types.specs.declared.head.Hole.TheVariants as hole_of
-use Rattle.hir_types.specs.declared.ty.Const.{Const}
 use Rattle.hir_types.specs.declared.ty.Const.TheVariants as const
-use Rattle.hir_types.specs.declared.ty.Ty.{Ty, Ty-F, roll-Ty, out-Ty, out-roll-Ty, roll-out-Ty}
 use Rattle.hir_types.specs.declared.ty.Ty.TheVariants as ty
-use Rattle.hir_types.specs.declared.ty.GenericArg.{GenericArg}
-use Rattle.hir_types.specs.declared.ty.AliasBound.{AliasBound}
-use Rattle.hir_types.specs.declared.ty.TraitRef.{TraitRef}
-use Rattle.hir_types.specs.Subst.{Assignment, with_holes, each_itself, composed, folded, const_folded}
-use Rattle.hir_types.specs.Terms.{Term, hole, apply, occurs, hole_eq, term, const_term, terms_of}
-use Rattle.hir_types.specs.Replacements.{replaced_var, replaced_int_var, folded_twice, const_folded_twice}
-use Rattle.hir_types.specs.TermLaws.{term_var, term_int_var, term_folded, const_term_folded}
-use Rattle.hir_types.specs.Agreement.{SameAt, folded_absent, const_folded_absent}
 use Rattle.infer_table.specs.declared.binding.Binding.{Binding}
 use Rattle.infer_table.specs.declared.binding.Binding.TheVariants as binding
 use Rattle.infer_table.specs.Solutions.{single, sub, resolved, found, Kept, Absent, Triangular, log_of}

@@ -1,9 +1,7 @@
 -- Binding the holes that stood for aliases, and what unifying does to the bindings.
 use Rattle.std.proofs.Common.{◌≡◌, ℕ, Bool, true, false, ◌⊎◌, List, [], ◌∷◌, ◌++◌, length, Option, Some, None}
 use Rattle.hir_types.specs.declared.head.Hole.TheVariants as hole_of
-use Rattle.hir_types.specs.declared.head.HoleKind.{HoleKind}
-use Rattle.hir_types.specs.declared.head.Hole.{Hole}
-use Rattle.hir_types.specs.Terms.{Term, hole, apply, term}
+use Rattle.infer_table.specs.Words.{HoleKind, Hole, Term, hole, apply, term}
 use Rattle.infer_table.specs.declared.binding.Binding.{Binding}
 use Rattle.infer_table.specs.declared.open.Origin.{Origin}
 use Rattle.infer_table.specs.Solutions.{log_of, Solves, Respects, resolved, IsOf, AreOf, Unified}

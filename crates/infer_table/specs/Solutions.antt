@@ -1,10 +1,8 @@
 -- Bindings of holes, and the assignments that solve them.
 use Rattle.std.specs.Prelude.{◌≡◌, Bool, true, false, ◌||◌, ◌++◌, if◌then◌else◌, List, [], ◌∷◌, Option, Some, None, slice_get, map}
-use Rattle.hir_types.specs.declared.head.Hole.{Hole}
+use Rattle.infer_table.specs.Words.{Hole, HoleKind, Term, hole, apply, occurs, hole_eq, hole_number, IsInt, term, const_term}
 use Rattle.hir_types.specs.declared.head.Hole.TheVariants as hole_of
-use Rattle.hir_types.specs.declared.head.HoleKind.{HoleKind}
 use Rattle.hir_types.specs.declared.head.HoleKind.TheVariants as kind
-use Rattle.hir_types.specs.Terms.{Term, hole, apply, occurs, hole_eq, hole_number, IsInt, term, const_term}
 use Rattle.infer_table.specs.declared.binding.Binding.{Binding}
 use Rattle.infer_table.specs.declared.binding.Binding.TheVariants as binding
 

@@ -1,13 +1,8 @@
 -- The state of a table, and what its calls do to it.
 use Rattle.std.specs.Prelude.{◌≡◌, ℕ, ◌++◌, Bool, true, false, List, [], ◌∷◌, length, Option, Some, None}
-use Rattle.hir_types.specs.declared.head.Hole.{Hole}
+use Rattle.infer_table.specs.Words.{Hole, HoleKind, Ty, ExprOrPatId, folded, Term, hole, apply, term}
 use Rattle.hir_types.specs.declared.head.Hole.TheVariants as hole_of
-use Rattle.hir_types.specs.declared.head.HoleKind.{HoleKind}
-use Rattle.hir_types.specs.declared.ty.Ty.{Ty}
 use Rattle.std.proofs.Common.{◌⊎◌}
-use Rattle.hir_types.specs.declared.ids.ExprOrPatId.{ExprOrPatId}
-use Rattle.hir_types.specs.Subst.{folded}
-use Rattle.hir_types.specs.Terms.{Term, hole, apply, term}
 use Rattle.infer_table.specs.declared.binding.Binding.{Binding}
 use Rattle.infer_table.specs.declared.waiting.WaitingPair.{WaitingPair}
 use Rattle.infer_table.specs.declared.snapshot.Snapshot.{Snapshot}

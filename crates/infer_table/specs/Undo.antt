@@ -1,9 +1,7 @@
 -- What trying a closure on a table comes to.
 use Rattle.std.specs.Prelude.{◌≡◌, ℕ, ◌≤◌, false, Some, slice_get, Result, Ok, Err}
 use Rattle.infer_table.specs.declared.binding.Binding.{Binding}
-use Rattle.hir_types.specs.declared.head.Hole.{Hole}
-use Rattle.hir_types.specs.Subst.{Replacement, with_holes}
-use Rattle.hir_types.specs.Terms.{hole_number, occurs}
+use Rattle.infer_table.specs.Words.{Hole, Replacement, with_holes, hole_number, occurs}
 use Rattle.infer_table.specs.Bindings.{bound_hole, bound_term}
 use Rattle.infer_table.specs.Resolution.{resolution}
 use Rattle.infer_table.specs.Table.{State, IsBack, bindings, hole_count}

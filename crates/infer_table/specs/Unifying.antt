@@ -1,7 +1,6 @@
 -- What unifying two types through their opened terms comes to.
 use Rattle.std.proofs.Common.{◌≡◌, ℕ, List, ◌++◌, refl, sym, ap, subst, ◌∙◌}
-use Rattle.hir_types.specs.declared.head.Hole.{Hole}
-use Rattle.hir_types.specs.Terms.{Term, apply}
+use Rattle.infer_table.specs.Words.{Hole, Term, apply}
 use Rattle.infer_table.specs.Solutions.{Log, Solves, Respects, resolved, Triangular, Unified, NoneUnifies}
 use Rattle.infer_table.specs.LogLemmas.{solves_left, solution, solution_apply, solution_solves, solution_respects, resolved_apply, resolved_append, resolved_twice}
 use Rattle.infer_table.specs.Opened.{IsPlain, IsReadAs, Agree, opened, origins}

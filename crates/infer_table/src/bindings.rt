@@ -1,9 +1,8 @@
 //! Holes, and what they are bound to.
 ghost use Rattle.std.specs.Prelude.{◌≡◌, ◌↔◌, IsTrue, ◌⊎◌, ◌-◌, ◌<◌, None, length, take, OnOk, OnErr, IfOk};
 ghost use Rattle.std.specs.Option.{option_copied};
-ghost use Rattle.infer_table.specs.Solutions.{IsOf, hole_kind, IsIntHole, log_of, Triangular};
-ghost use Rattle.infer_table.specs.Bindings.{bound_hole, found_binding, no_bindings, with_hole, with_binding, MayBind, AllOf, IsTypeHole};
-ghost use Rattle.hir_types.specs.Terms.{hole_number};
+ghost use Rattle.infer_table.specs.Own.{IsOf, hole_kind, IsIntHole, log_of, Triangular, bound_hole, found_binding, no_bindings, with_hole, with_binding, MayBind, AllOf, IsTypeHole};
+ghost use Rattle.infer_table.specs.Words.{hole_number};
 
 use crate::binding::Binding;
 use hir_types::{Const, Hole, HoleKind, Ty};

@@ -1,13 +1,8 @@
 //! Values of a table with what is known put in: `infer/unify.rs`, `shallow_resolve`,
 //! `resolve_completely`.
 ghost use Rattle.std.specs.Prelude.{◌≡◌, IfOk};
-ghost use Rattle.hir_types.specs.Subst.{Assignment, with_holes};
-ghost use Rattle.hir_types.specs.Terms.{terms_of};
-ghost use Rattle.infer_table.specs.Bindings.{AllOf};
-ghost use Rattle.infer_table.specs.Resolution.{resolution, IsOpenOrKnown};
-ghost use Rattle.infer_table.specs.Solutions.{Respects, Triangular, log_of};
-ghost use Rattle.infer_table.specs.Table.{bindings, resolved_type, HolesAreOf, Meets};
-ghost use Rattle.infer_table.specs.Completion.{completion_of, completion};
+ghost use Rattle.infer_table.specs.Words.{Assignment, with_holes, terms_of};
+ghost use Rattle.infer_table.specs.Own.{AllOf, resolution, IsOpenOrKnown, Respects, Triangular, log_of, bindings, resolved_type, HolesAreOf, Meets, completion_of, completion};
 
 use crate::bindings::Bindings;
 use crate::table::InferenceTable;

@@ -2,11 +2,8 @@
 ghost use Rattle.std.specs.Prelude.{◌≡◌, ◌↔◌, [], true, false, IsTrue, IfOk, None};
 ghost use Rattle.hir_types.specs.declared.head.Hole.TheVariants as hole_of;
 ghost use Rattle.hir_types.specs.declared.ty.Const.TheVariants as const;
-ghost use Rattle.hir_types.specs.Terms.{hole, node, chain, occurs, hole_eq, term, const_term, IsInt};
-ghost use Rattle.hir_types.specs.Outlines.{part_term, part_terms};
-ghost use Rattle.infer_table.specs.Solutions.{log_of, IsOf, AreOf, IsIntHole, Kept, UnifiedIf, resolved};
-ghost use Rattle.infer_table.specs.Bindings.{bound_hole, bound_term, found_binding, IsTypeHole};
-ghost use Rattle.infer_table.specs.Equating.{OnlyAdds, IsOpenHole, IsResolved, IsHeaded};
+ghost use Rattle.infer_table.specs.Words.{hole, node, chain, occurs, hole_eq, term, const_term, IsInt, part_term, part_terms};
+ghost use Rattle.infer_table.specs.Own.{log_of, IsOf, AreOf, IsIntHole, Kept, UnifiedIf, resolved, bound_hole, bound_term, found_binding, IsTypeHole, OnlyAdds, IsOpenHole, IsResolved, IsHeaded};
 
 use crate::binding::Binding;
 use crate::bindings::Bindings;

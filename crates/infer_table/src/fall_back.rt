@@ -1,7 +1,6 @@
 //! Open holes for integer types fall back to `i32`: `infer/unify.rs`, `fallback_value`.
 ghost use Rattle.std.specs.Prelude.{◌↔◌, IsTrue, OnOk, length};
-ghost use Rattle.infer_table.specs.FallBack.{OnlyFalls, IsOpenInt, NoneOpenBelow, FellBack};
-ghost use Rattle.infer_table.specs.Table.{Grew};
+ghost use Rattle.infer_table.specs.Own.{OnlyFalls, IsOpenInt, NoneOpenBelow, FellBack, Grew};
 
 use crate::binding::Binding;
 use crate::bindings::Bindings;

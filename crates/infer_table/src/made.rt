@@ -1,8 +1,7 @@
 //! Whether a table made the holes of a type.
 ghost use Rattle.std.specs.Prelude.{IfOk};
-ghost use Rattle.hir_types.specs.Terms.{chain, const_term, term};
-ghost use Rattle.hir_types.specs.Outlines.{part_term, part_terms};
-ghost use Rattle.infer_table.specs.MadeTest.{MadeIf, HasMadeIf};
+ghost use Rattle.infer_table.specs.Words.{chain, const_term, term, part_term, part_terms};
+ghost use Rattle.infer_table.specs.Own.{MadeIf, HasMadeIf};
 
 use crate::bindings::Bindings;
 use crate::levels::one_level;

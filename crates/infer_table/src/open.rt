@@ -1,13 +1,8 @@
 //! Copies of types with holes in the places of aliases and of `{unknown}`.
 ghost use Rattle.std.specs.Prelude.{◌≡◌, ℕ, ◌∷◌, [], ◌++◌, List, length, map, IfOk, OnOk};
-ghost use Rattle.hir_types.specs.declared.head.HoleKind.{HoleKind};
+ghost use Rattle.infer_table.specs.Words.{HoleKind, Term, term, arg_term, const_term, parts_of_types};
 ghost use Rattle.hir_types.specs.declared.ty.Ty.TheVariants as ty_of;
-ghost use Rattle.hir_types.specs.Terms.{Term, term, arg_term, const_term};
-ghost use Rattle.hir_types.specs.TermLaws.{parts_of_types};
-ghost use Rattle.infer_table.specs.Opened.{place, alias, opened, origins};
-ghost use Rattle.infer_table.specs.OpenedKinds.{new_kinds};
-ghost use Rattle.infer_table.specs.OpenedLists.{Opens, OpensParts, principal_terms, bounds_terms};
-ghost use Rattle.infer_table.specs.Opening.{OnlyMakes, origins_of};
+ghost use Rattle.infer_table.specs.Own.{place, alias, opened, origins, new_kinds, Opens, OpensParts, principal_terms, bounds_terms, OnlyMakes, origins_of};
 
 use crate::bindings::Bindings;
 use crate::levels::one_level;

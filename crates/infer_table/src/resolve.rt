@@ -1,11 +1,8 @@
 //! What holes are bound to in the end.
 ghost use Rattle.std.specs.Prelude.{◌≡◌};
 ghost use Rattle.std.specs.Option.{option_copied};
-ghost use Rattle.hir_types.specs.Subst.{folded, const_folded};
-ghost use Rattle.hir_types.specs.Terms.{term};
-ghost use Rattle.infer_table.specs.Bindings.{AllOf};
-ghost use Rattle.infer_table.specs.Solutions.{log_of, Triangular, AreOf};
-ghost use Rattle.infer_table.specs.Resolution.{resolution, found_type, found_const, found_for, IsOpenOrKnown};
+ghost use Rattle.infer_table.specs.Words.{folded, const_folded, term};
+ghost use Rattle.infer_table.specs.Own.{AllOf, log_of, Triangular, AreOf, resolution, found_type, found_const, found_for, IsOpenOrKnown};
 
 use crate::binding::Binding;
 use crate::bindings::Bindings;

@@ -1,7 +1,7 @@
 //! Values with what their holes are bound to.
 ghost use Rattle.std.specs.Prelude.{◌≡◌, IfOk};
-ghost use Rattle.hir_types.specs.Subst.{with_holes, folded};
-ghost use Rattle.infer_table.specs.Resolution.{resolution, IsOpenOrKnown};
+ghost use Rattle.infer_table.specs.Words.{with_holes, folded};
+ghost use Rattle.infer_table.specs.Own.{resolution, IsOpenOrKnown};
 
 use crate::bindings::Bindings;
 use hir_types::{Const, Folded, Room, Ty, TypeFolder};

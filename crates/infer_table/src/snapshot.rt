@@ -1,9 +1,7 @@
 //! Going back: `infer/unify.rs`, `snapshot`, `rollback_to`, `commit_if_ok`, `fudge_inference_if_ok`.
 ghost use Rattle.std.specs.Prelude.{◌≡◌, IfOk};
 ghost use Rattle.std.specs.Fn.{FnOnceTakesAtMut, FnOnceReturnsAtMut};
-ghost use Rattle.infer_table.specs.Bindings.{AllOf};
-ghost use Rattle.infer_table.specs.Table.{State, Grew, IsTakenIn, GrewFrom, Undoes, bindings};
-ghost use Rattle.infer_table.specs.Undo.{CommitsIfOk, Fudges};
+ghost use Rattle.infer_table.specs.Own.{AllOf, State, Grew, IsTakenIn, GrewFrom, Undoes, bindings, CommitsIfOk, Fudges};
 
 use crate::table::InferenceTable;
 use hir_types::Folded;

@@ -3,9 +3,7 @@ ghost use Rattle.std.specs.Prelude.{◌≡◌, length, slice_get, option_map, If
 ghost use Rattle.hir_types.specs.declared.head.HoleKind.TheVariants as kind;
 ghost use Rattle.hir_types.specs.declared.ty.Ty.TheVariants as ty;
 ghost use Rattle.hir_types.specs.declared.ty.Const.TheVariants as const;
-ghost use Rattle.infer_table.specs.Bindings.{bound_hole};
-ghost use Rattle.infer_table.specs.Table.{new_state, hole_count, bindings, with_new_hole, with_diverging};
-ghost use Rattle.infer_table.specs.Undo.{AreUnusedFrom};
+ghost use Rattle.infer_table.specs.Own.{bound_hole, new_state, hole_count, bindings, with_new_hole, with_diverging, AreUnusedFrom};
 
 use crate::bindings::Bindings;
 use crate::queue::PairQueue;

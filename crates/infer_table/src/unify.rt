@@ -1,17 +1,8 @@
 //! Unifying two types of a table: `infer/unify.rs`, `unify`, `try_unify`.
 ghost use Rattle.std.specs.Prelude.{◌≡◌, [], IfOk, OnOk, OnErr, is_ok};
-ghost use Rattle.hir_types.specs.Terms.{term};
-ghost use Rattle.infer_table.specs.Solutions.{AreOf};
-ghost use Rattle.infer_table.specs.Opened.{place, alias};
-ghost use Rattle.infer_table.specs.Equating.{OnlyAdds};
-ghost use Rattle.infer_table.specs.Equating.{IsOpenHole};
-ghost use Rattle.infer_table.specs.Opening.{origins_of};
-ghost use Rattle.infer_table.specs.OpenedAgree.{AreSettled};
-ghost use Rattle.infer_table.specs.Least.{BindsSome};
-ghost use Rattle.infer_table.specs.Settling.{Settled, SettlesOrigin, IsOriginOf, AreOriginsOf, IsTypeHoleIf, OnlyGrows, Unifies, UnifiesOrStays};
+ghost use Rattle.infer_table.specs.Words.{term};
+ghost use Rattle.infer_table.specs.Own.{AreOf, place, alias, OnlyAdds, IsOpenHole, origins_of, AreSettled, BindsSome, Settled, SettlesOrigin, IsOriginOf, AreOriginsOf, IsTypeHoleIf, OnlyGrows, Unifies, UnifiesOrStays, log_of, HolesAreOf, AreUnifiedIf};
 ghost use Rattle.hir_types.specs.declared.head.Hole.TheVariants as hole_of;
-ghost use Rattle.infer_table.specs.Solutions.{log_of};
-ghost use Rattle.infer_table.specs.Table.{HolesAreOf, AreUnifiedIf};
 
 use crate::bindings::Bindings;
 use crate::equate::{binding_to, stands_in};

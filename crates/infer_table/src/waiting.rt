@@ -1,7 +1,7 @@
 //! Pairs of types that wait to be unified.
 ghost use Rattle.std.specs.Prelude.{◌≡◌, ℕ, ◌+◌, ◌++◌, ◌∷◌, [], ◌<◌, true, take, length, IfOk, OnOk, OnErr, IsSome};
 ghost use Rattle.std.specs.Option.{option_copied};
-ghost use Rattle.infer_table.specs.Waiting.{no_pairs, is_taken, waiting, with_pair, with_taken, cut_back, AllMade, AreMarked, pairs_of, left_at, left_before, left_past};
+ghost use Rattle.infer_table.specs.Own.{no_pairs, is_taken, waiting, with_pair, with_taken, cut_back, AllMade, AreMarked, pairs_of, left_at, left_before, left_past};
 
 use hir_types::{ExprOrPatId, Ty};
 use std::alloc::{AllocError, Global};

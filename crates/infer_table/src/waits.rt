@@ -1,7 +1,6 @@
 //! Pairs of a table that wait to be unified.
 ghost use Rattle.std.specs.Prelude.{◌≡◌, ◌↔◌, ◌++◌, ◌∷◌, [], length, IsTrue, IfOk, OnOk, OnErr, MatchOption};
-ghost use Rattle.infer_table.specs.Table.{HolesAreOf, IsNoOpenHole, AllUnknown, IsFirstKnown, TakesKnown, with_waiting};
-ghost use Rattle.infer_table.specs.Waiting.{waiting};
+ghost use Rattle.infer_table.specs.Own.{HolesAreOf, IsNoOpenHole, AllUnknown, IsFirstKnown, TakesKnown, with_waiting, waiting};
 
 use crate::table::InferenceTable;
 use crate::waiting::WaitingPair;

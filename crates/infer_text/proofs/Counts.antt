@@ -3,7 +3,7 @@ use Rattle.std.proofs.Common.{◌≡◌, suc, List, [], ◌∷◌, length, refl,
 use Rattle.std.specs.declared.alloc.Global.{Global}
 use Rattle.serde_json.specs.View.{items_view, members_view}
 use Rattle.serde_json.specs.declared.value.Value.{Value}
-use Rattle.infer_text.specs.Reading.{count_items, count_members}
+use Rattle.infer_text.specs.Own.{count_items, count_members}
 
 pub count_items_view : (vs : List Value) → count_items (items_view vs) ≡ length vs
 count_items_view [] = refl

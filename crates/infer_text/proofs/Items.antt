@@ -5,9 +5,8 @@ use Rattle.std.specs.Fmt.{decimal}
 use Rattle.serde_json.specs.Data.{Data, item}
 use Rattle.serde_json.specs.View.{view, items_view}
 use Rattle.serde_json.specs.declared.value.Value.{Value}
-use Rattle.infer_text.specs.declared.fault.Misread.{Misread}
+use Rattle.infer_text.specs.Own.{Misread, ◌>>=◌, Fails, under, read_each}
 use Rattle.infer_text.specs.declared.fault.Misread.TheVariants as misread
-use Rattle.infer_text.specs.Reading.{◌>>=◌, Fails, under, read_each}
 
 -- what was read before, and what is still read
 abbrev pub with_front : {A : Type 0} → List A → Result (List A) (List ℕ) → Result (List A) (List ℕ)

@@ -5,11 +5,9 @@ use Rattle.std.specs.Prelude.{string_bytes}
 use Rattle.std.specs.declared.alloc.Global.{Global}
 use Rattle.serde_json.specs.View.{view, members_view}
 use Rattle.serde_json.specs.declared.value.Value.{Value}
-use Rattle.hir_raw.specs.declared.raw.RawLang.{RawLang}
-use Rattle.infer_text.specs.declared.fault.Misread.{Misread}
+use Rattle.infer_text.specs.Words.{RawLang}
+use Rattle.infer_text.specs.Own.{Misread, Fails, under, lang_item, lang_items}
 use Rattle.infer_text.specs.declared.fault.Misread.TheVariants as misread
-use Rattle.infer_text.specs.Reading.{Fails, under}
-use Rattle.infer_text.specs.Abstract.{lang_item, lang_items}
 use Rattle.infer_text.proofs.Items.{regroup, with_front}
 
 abbrev pub Entry : Type 0

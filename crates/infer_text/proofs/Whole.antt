@@ -4,7 +4,7 @@ use Rattle.std.specs.Str.{IsUtf8, is_utf8}
 use Rattle.std.proofs.lemmas.Str.{IsUtf8-from_is_utf8, is_utf8-from_IsUtf8}
 use Rattle.serde_json.specs.Data.{Data}
 use Rattle.serde_json.specs.Read.{read}
-use Rattle.infer_text.specs.Facts.{no_json, facts_of, raw_facts}
+use Rattle.infer_text.specs.Own.{no_json, facts_of, raw_facts}
 
 pub facts-read : (text : List ℕ) (o : Option Data) → IsUtf8 text → read text ≡ o → raw_facts text ≡ facts_of o
 facts-read text o utf8 e = rw (is_utf8-from_IsUtf8 text utf8, e) refl

@@ -3,13 +3,8 @@ use Rattle.std.specs.Prelude.{ℕ, List, [], ◌∷◌, Result, Ok, codes, if◌
 use Rattle.std.specs.Str.{bytes_eq}
 use Rattle.serde_json.specs.Data.{Data, Members, no_members, member}
 use Rattle.serde_json.specs.Find.{as_object}
-use Rattle.hir_raw.specs.declared.raw.RawTraitRef.{RawTraitRef}
-use Rattle.hir_raw.specs.declared.raw.RawTrait.{RawTrait}
-use Rattle.hir_raw.specs.declared.raw.RawAlias.{RawAlias}
-use Rattle.hir_raw.specs.declared.raw.RawAssocType.{RawAssocType}
-use Rattle.hir_raw.specs.declared.raw.RawImpl.{RawImpl}
-use Rattle.hir_raw.specs.declared.raw.RawLang.{RawLang}
-use Rattle.hir_raw.specs.declared.raw.RawLang.TheVariants as lang
+use Rattle.infer_text.specs.Words.{RawTraitRef, RawTrait, RawAlias, RawAssocType, RawImpl, RawLang}
+use Rattle.infer_text.specs.Words.hir_raw.declared.raw.RawLang.TheVariants as lang
 use Rattle.infer_text.specs.declared.abstractions.Lang.{Lang}
 use Rattle.infer_text.specs.Reading.{◌>>=◌, ◌>>◌, there, under, field, part, keys_in, parts_in, bool_in, text_in, option_in, list_in}
 use Rattle.infer_text.specs.Leaves.{trait_in, alias_id_in, const_id_in, function_id_in, type_ref_in}

@@ -1,24 +1,12 @@
 -- What stands for bodies and their nodes.
 use Rattle.std.specs.Prelude.{ℕ, List, [], Option, Some, None, Result, Ok, Err, codes, if◌then◌else◌}
 use Rattle.serde_json.specs.Data.{Data}
-use Rattle.hir_types.specs.declared.ids.BindingId.{BindingId}
-use Rattle.hir_types.specs.declared.ids.FunctionId.{FunctionId}
-use Rattle.hir_types.specs.declared.ids.PatId.{PatId}
-use Rattle.hir_types.specs.declared.ids.VariantId.{VariantId}
-use Rattle.hir_raw.specs.declared.raw.Other.{Other}
-use Rattle.hir_raw.specs.declared.raw.RawLiteral.{RawLiteral}
-use Rattle.hir_raw.specs.declared.raw.RawLiteral.TheVariants as literal
-use Rattle.hir_raw.specs.declared.raw.RawPath.{RawPath}
-use Rattle.hir_raw.specs.declared.raw.RawPath.TheVariants as path
-use Rattle.hir_raw.specs.declared.raw.RawStmt.{RawStmt}
-use Rattle.hir_raw.specs.declared.raw.RawStmt.TheVariants as stmt
-use Rattle.hir_raw.specs.declared.raw.RawArm.{RawArm}
-use Rattle.hir_raw.specs.declared.raw.RawExpr.{RawExpr}
-use Rattle.hir_raw.specs.declared.raw.RawExpr.TheVariants as expr
-use Rattle.hir_raw.specs.declared.raw.RawPat.{RawPat}
-use Rattle.hir_raw.specs.declared.raw.RawPat.TheVariants as pat
-use Rattle.hir_raw.specs.declared.raw.RawBinding.{RawBinding}
-use Rattle.hir_raw.specs.declared.raw.RawBody.{RawBody}
+use Rattle.infer_text.specs.Words.{BindingId, FunctionId, PatId, VariantId, Other, RawLiteral, RawPath, RawStmt, RawArm, RawExpr, RawPat, RawBinding, RawBody}
+use Rattle.infer_text.specs.Words.hir_raw.declared.raw.RawLiteral.TheVariants as literal
+use Rattle.infer_text.specs.Words.hir_raw.declared.raw.RawPath.TheVariants as path
+use Rattle.infer_text.specs.Words.hir_raw.declared.raw.RawStmt.TheVariants as stmt
+use Rattle.infer_text.specs.Words.hir_raw.declared.raw.RawExpr.TheVariants as expr
+use Rattle.infer_text.specs.Words.hir_raw.declared.raw.RawPat.TheVariants as pat
 use Rattle.infer_text.specs.declared.bodies.VariantPath.{VariantPath}
 use Rattle.infer_text.specs.Reading.{◌>>=◌, ◌>>◌, there, field, part, keys_in, parts_in, tag, is_tag, is_kind_of, bool_in, text_in, u32_in, option_in, list_in}
 use Rattle.infer_text.specs.Leaves.{module_in, trait_in, variant_id_in, type_ref_in, function_id_in, expr_id_in, pat_id_in, binding_id_in, label_in, other_in, integer_in, annotation_in}

@@ -4,28 +4,13 @@ use Rattle.std.specs.Prelude.{ℕ, ◌+◌, ◌==◌, Bool, true, false, List, [
 use Rattle.std.specs.Str.{bytes_eq}
 use Rattle.serde_json.specs.Data.{Data}
 use Rattle.serde_json.specs.Find.{as_str}
-use Rattle.hir_types.specs.declared.ids.AdtId.{AdtId}
-use Rattle.hir_types.specs.declared.ids.TypeAliasId.{TypeAliasId}
-use Rattle.hir_types.specs.declared.ids.TypeRefId.{TypeRefId}
-use Rattle.hir_types.specs.declared.ty.IntegerTy.{IntegerTy}
-use Rattle.hir_raw.specs.declared.raw.RawType.{RawType}
-use Rattle.hir_raw.specs.declared.raw.RawType.TheVariants as type
-use Rattle.hir_raw.specs.declared.raw.RawArgs.{RawArgs}
-use Rattle.hir_raw.specs.declared.raw.RawArgs.TheVariants as args
-use Rattle.hir_raw.specs.declared.raw.RawTraitRef.{RawTraitRef}
-use Rattle.hir_raw.specs.declared.raw.RawGoal.{RawGoal}
-use Rattle.hir_raw.specs.declared.raw.RawGoal.TheVariants as goal
-use Rattle.hir_raw.specs.declared.raw.RawAt.{RawAt}
-use Rattle.hir_raw.specs.declared.raw.RawAt.TheVariants as stands
-use Rattle.hir_raw.specs.declared.raw.RawVis.{RawVis}
-use Rattle.hir_raw.specs.declared.raw.RawVis.TheVariants as vis
-use Rattle.hir_raw.specs.declared.raw.RawParam.{RawParam}
-use Rattle.hir_raw.specs.declared.raw.RawParam.TheVariants as param
-use Rattle.hir_raw.specs.declared.raw.RawAdt.{RawAdt}
-use Rattle.hir_raw.specs.declared.raw.RawField.{RawField}
-use Rattle.hir_raw.specs.declared.raw.RawVariant.{RawVariant}
-use Rattle.hir_raw.specs.declared.raw.RawFn.{RawFn}
-use Rattle.hir_raw.specs.declared.raw.RawLimits.{RawLimits}
+use Rattle.infer_text.specs.Words.{AdtId, TypeAliasId, TypeRefId, IntegerTy, RawType, RawArgs, RawTraitRef, RawGoal, RawAt, RawVis, RawParam, RawAdt, RawField, RawVariant, RawFn, RawLimits}
+use Rattle.infer_text.specs.Words.hir_raw.declared.raw.RawType.TheVariants as type
+use Rattle.infer_text.specs.Words.hir_raw.declared.raw.RawArgs.TheVariants as args
+use Rattle.infer_text.specs.Words.hir_raw.declared.raw.RawGoal.TheVariants as goal
+use Rattle.infer_text.specs.Words.hir_raw.declared.raw.RawAt.TheVariants as stands
+use Rattle.infer_text.specs.Words.hir_raw.declared.raw.RawVis.TheVariants as vis
+use Rattle.infer_text.specs.Words.hir_raw.declared.raw.RawParam.TheVariants as param
 use Rattle.infer_text.specs.declared.entries.Arg.{Arg}
 use Rattle.infer_text.specs.declared.entries.Arg.TheVariants as argument
 use Rattle.infer_text.specs.Reading.{◌>>=◌, ◌>>◌, there, field, part, keys_in, parts_in, tag, is_tag, is_kind_of, bool_in, text_in, u32_in, option_in, list_in}

@@ -3,14 +3,10 @@ use Rattle.std.specs.Prelude.{◌≡◌, ℕ, List, Option, Some, None, Result, 
 use Rattle.std.specs.Str.{is_utf8}
 use Rattle.serde_json.specs.Data.{Data}
 use Rattle.serde_json.specs.Read.{read}
-use Rattle.hir_raw.specs.declared.raw.RawBody.{RawBody}
-use Rattle.hir_raw.specs.declared.raw.RawFacts.{RawFacts}
+use Rattle.infer_text.specs.Words.{RawBody, RawFacts, Law, FactsList, IsLawful, FirstBroken, tests}
 use Rattle.infer_text.specs.declared.reading.Settings.{Settings}
 use Rattle.infer_text.specs.declared.reading.Items.{Items}
 use Rattle.infer_text.specs.declared.reading.Abstractions.{Abstractions}
-use Rattle.hir_facts.specs.declared.laws.Law.{Law}
-use Rattle.hir_facts.specs.declared.laws.FactsList.{FactsList}
-use Rattle.hir_facts.specs.Lawful.{IsLawful, FirstBroken, tests}
 use Rattle.infer_text.specs.declared.fault.ReadError.{ReadError}
 use Rattle.infer_text.specs.declared.fault.ReadError.TheVariants as error
 use Rattle.infer_text.specs.Reading.{◌>>=◌, ◌>>◌, field, keys_in, bool_in, option_in, list_in}

@@ -4,33 +4,13 @@ use Rattle.std.specs.Str.{bytes_eq}
 use Rattle.serde_json.specs.Data.{Data}
 use Rattle.serde_json.specs.Find.{as_str}
 use Rattle.infer_text.specs.Reading.{◌>>=◌, there, u32_in}
-use Rattle.hir_types.specs.declared.ids.AdtId.{AdtId}
-use Rattle.hir_types.specs.declared.ids.ModuleId.{ModuleId}
-use Rattle.hir_types.specs.declared.ids.VariantId.{VariantId}
-use Rattle.hir_types.specs.declared.ids.TraitId.{TraitId}
-use Rattle.hir_types.specs.declared.ids.TypeAliasId.{TypeAliasId}
-use Rattle.hir_types.specs.declared.ids.ConstId.{ConstId}
-use Rattle.hir_types.specs.declared.ids.TypeRefId.{TypeRefId}
-use Rattle.hir_types.specs.declared.ids.FunctionId.{FunctionId}
-use Rattle.hir_types.specs.declared.ids.BodyId.{BodyId}
-use Rattle.hir_types.specs.declared.ids.ExprId.{ExprId}
-use Rattle.hir_types.specs.declared.ids.PatId.{PatId}
-use Rattle.hir_types.specs.declared.ids.BindingId.{BindingId}
-use Rattle.hir_types.specs.declared.ids.LabelId.{LabelId}
-use Rattle.hir_raw.specs.declared.raw.Other.{Other}
-use Rattle.hir_raw.specs.declared.raw.Edition.{Edition}
-use Rattle.hir_raw.specs.declared.raw.Edition.TheVariants as edition
-use Rattle.hir_raw.specs.declared.raw.RawAdtKind.{RawAdtKind}
-use Rattle.hir_raw.specs.declared.raw.RawAdtKind.TheVariants as kind
-use Rattle.hir_raw.specs.declared.raw.RawCtor.{RawCtor}
-use Rattle.hir_raw.specs.declared.raw.RawCtor.TheVariants as ctor
-use Rattle.hir_raw.specs.declared.raw.BindingAnnotation.{BindingAnnotation}
-use Rattle.hir_raw.specs.declared.raw.BindingAnnotation.TheVariants as mode
-use Rattle.hir_types.specs.declared.ty.IntTy.{IntTy}
+use Rattle.infer_text.specs.Words.{AdtId, ModuleId, VariantId, TraitId, TypeAliasId, ConstId, TypeRefId, FunctionId, BodyId, ExprId, PatId, BindingId, LabelId, Other, Edition, RawAdtKind, RawCtor, BindingAnnotation, IntTy, UintTy, IntegerTy}
+use Rattle.infer_text.specs.Words.hir_raw.declared.raw.Edition.TheVariants as edition
+use Rattle.infer_text.specs.Words.hir_raw.declared.raw.RawAdtKind.TheVariants as kind
+use Rattle.infer_text.specs.Words.hir_raw.declared.raw.RawCtor.TheVariants as ctor
+use Rattle.infer_text.specs.Words.hir_raw.declared.raw.BindingAnnotation.TheVariants as mode
 use Rattle.hir_types.specs.declared.ty.IntTy.TheVariants as int
-use Rattle.hir_types.specs.declared.ty.UintTy.{UintTy}
 use Rattle.hir_types.specs.declared.ty.UintTy.TheVariants as uint
-use Rattle.hir_types.specs.declared.ty.IntegerTy.{IntegerTy}
 use Rattle.hir_types.specs.declared.ty.IntegerTy.TheVariants as integer
 use Rattle.infer_text.specs.declared.leaves.Profile.{Profile}
 

@@ -5,3 +5,5 @@ pub mod Entries
 pub mod Bodies
 pub mod Facts
 pub mod Abstract
+pub mod Words
+pub mod Own

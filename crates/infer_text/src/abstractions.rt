@@ -1,13 +1,14 @@
 //! Reading traits, associated types, impls and language items.
 ghost use Rattle.std.specs.Prelude.{◌≡◌, List, Result, string_bytes};
 ghost use Rattle.serde_json.specs.View.{view, members_view};
-ghost use Rattle.infer_text.specs.Reading.{IsAsRead, AreAsRead, under};
-ghost use Rattle.infer_text.specs.Abstract.{trait_item_in, alias_in, impl_trait_in, assoc_type_in, impl_in, lang_item, lang_items, lang_in};
+ghost use Rattle.infer_text.specs.Own.{IsAsRead, AreAsRead, under, trait_item_in, alias_in, impl_trait_in, assoc_type_in, impl_in, lang_item, lang_items, lang_in};
 
 use super::entries::trait_ref_at;
 use super::fault::Misread;
 use super::reader::{FromData, expect_keys, expect_parts, field_of, misshapen, part_of, stepped};
-use hir_facts::{List, RawAlias, RawAssocType, RawImpl, RawLang, RawTrait, RawTraitRef, TraitId};
+use hir_laws::hir_facts::{
+    List, RawAlias, RawAssocType, RawImpl, RawLang, RawTrait, RawTraitRef, TraitId,
+};
 use serde_json::{Map, Value};
 use std::alloc::Global;
 

@@ -1,15 +1,13 @@
 //! Reading bodies and their nodes.
 ghost use Rattle.std.specs.Prelude.{◌≡◌, List, Result, Some, None, Ok, Err};
 ghost use Rattle.serde_json.specs.View.{view};
-ghost use Rattle.infer_text.specs.Reading.{IsAsRead, is_kind_of};
-ghost use Rattle.infer_text.specs.Kinds.{other_exprs, other_pats, other_paths, other_literals};
-ghost use Rattle.infer_text.specs.Bodies.{int_literal_in, literal_in, local_in, function_in, ctor_path_in, path_in, let_in, expr_stmt_in, stmt_in, block_in, if_in, arm_in, match_in, call_in, expr_in, bind_in, tuple_pat_in, named_variant_in, variant_path_in, ctor_pat_in, pat_in, binding_in, body_in};
+ghost use Rattle.infer_text.specs.Own.{IsAsRead, is_kind_of, other_exprs, other_pats, other_paths, other_literals, int_literal_in, literal_in, local_in, function_in, ctor_path_in, path_in, let_in, expr_stmt_in, stmt_in, block_in, if_in, arm_in, match_in, call_in, expr_in, bind_in, tuple_pat_in, named_variant_in, variant_path_in, ctor_pat_in, pat_in, binding_in, body_in};
 
 use super::fault::Misread;
 use super::reader::{
     FromData, expect_keys, expect_parts, field_of, is, is_one_of, misshapen, part_of, tag_of,
 };
-use hir_facts::{
+use hir_laws::hir_facts::{
     List, Other, RawArm, RawBinding, RawBody, RawExpr, RawLiteral, RawPat, RawPath, RawStmt,
     VariantId,
 };

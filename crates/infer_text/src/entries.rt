@@ -2,16 +2,14 @@
 ghost use Rattle.std.specs.Prelude.{◌≡◌, ◌<◌, List, Result, Some, None, Ok, Err, IfOk, map};
 ghost use Rattle.std.specs.List.{list_all};
 ghost use Rattle.serde_json.specs.View.{view};
-ghost use Rattle.infer_text.specs.Reading.{IsAsRead, is_kind_of};
-ghost use Rattle.infer_text.specs.Kinds.{other_types};
-ghost use Rattle.infer_text.specs.Entries.{integer_tag, named_type, arg_in, is_type, arg_type, args_in, adt_type_in, projection_type_in, trait_ref_at, projection_in, goal_in, type_in, param_in, adt_in, field_in, variant_in, at_in, vis_in, fn_in, limits_in};
+ghost use Rattle.infer_text.specs.Own.{IsAsRead, is_kind_of, other_types, integer_tag, named_type, arg_in, is_type, arg_type, args_in, adt_type_in, projection_type_in, trait_ref_at, projection_in, goal_in, type_in, param_in, adt_in, field_in, variant_in, at_in, vis_in, fn_in, limits_in};
 
 use super::fault::Misread;
 use super::leaves::integer_of;
 use super::reader::{
     FromData, expect_keys, expect_parts, field_of, is, is_one_of, misshapen, part_of, tag_of,
 };
-use hir_facts::{
+use hir_laws::hir_facts::{
     IntegerTy, List, ModuleId, RawAdt, RawArgs, RawAt, RawField, RawFn, RawGoal, RawLimits,
     RawParam, RawTraitRef, RawType, RawVariant, RawVis, TypeRefId,
 };

@@ -1,11 +1,10 @@
 //! Reading the parts that have no parts of their own.
 ghost use Rattle.std.specs.Prelude.{◌≡◌, Result, Some, None, Ok, Err};
-ghost use Rattle.infer_text.specs.Reading.{bool_in, text_in, u32_in};
-ghost use Rattle.infer_text.specs.Leaves.{module_in, trait_in, alias_id_in, const_id_in, adt_id_in, variant_id_in, type_ref_in, function_id_in, body_id_in, expr_id_in, pat_id_in, binding_id_in, label_in, other_in, int_name, uint_name, integer_name, integer_in, profile_in, edition_in, adt_kind_in, ctor_in, annotation_in};
+ghost use Rattle.infer_text.specs.Own.{bool_in, text_in, u32_in, module_in, trait_in, alias_id_in, const_id_in, adt_id_in, variant_id_in, type_ref_in, function_id_in, body_id_in, expr_id_in, pat_id_in, binding_id_in, label_in, other_in, int_name, uint_name, integer_name, integer_in, profile_in, edition_in, adt_kind_in, ctor_in, annotation_in};
 
 use super::fault::Misread;
 use super::reader::{FromData, misshapen};
-use hir_facts::{
+use hir_laws::hir_facts::{
     AdtId, BindingAnnotation, BindingId, BodyId, ConstId, Edition, ExprId, FunctionId, IntTy,
     IntegerTy, LabelId, ModuleId, Other, PatId, RawAdtKind, RawCtor, Text, TraitId, TypeAliasId,
     TypeRefId, UintTy, VariantId,

@@ -1,13 +1,13 @@
 //! Reading the facts of a text.
 ghost use Rattle.std.specs.Prelude.{List, Result, Some};
 ghost use Rattle.serde_json.specs.View.{view};
-ghost use Rattle.infer_text.specs.Facts.{settings_in, items_in, abstractions_in, facts_in, facts_of, raw_facts, Answers, Reads};
+ghost use Rattle.infer_text.specs.Own.{settings_in, items_in, abstractions_in, facts_in, facts_of, raw_facts, Answers, Reads};
 
 use super::abstractions::Lang;
 use super::fault::{Misread, ReadError};
 use super::leaves::Profile;
 use super::reader::{FromData, expect_keys, field_of};
-use hir_facts::{
+use hir_laws::hir_facts::{
     Edition, Facts, List, ModuleId, Other, RawAdt, RawAlias, RawFacts, RawFn, RawImpl, RawLang,
     RawLimits, RawTrait, RawType, RawVariant,
 };

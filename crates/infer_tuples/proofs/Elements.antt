@@ -1,39 +1,10 @@
 -- An element of a tuple, at its component.
 use Rattle.std.proofs.Common.{Bool, ◌≡◌, ◌∙◌, Option, Some, inr, refl, None, arith, subst, sym}
-use Rattle.hir_types.specs.declared.ids.ExprId.{ExprId}
-use Rattle.hir_types.specs.declared.ty.Ty.{Ty, Ty-F, out-Ty}
-use Rattle.hir_types.specs.declared.ty.AliasBound.{AliasBound}
-use Rattle.hir_types.specs.declared.ty.GenericArg.{GenericArg}
-use Rattle.hir_types.specs.declared.ty.TraitRef.{TraitRef}
-use Rattle.hir_types.specs.Subst.{folded}
+use Rattle.infer_tuples.specs.Words.{ExprId, Ty, Ty-F, out-Ty, AliasBound, GenericArg, TraitRef, folded, Schedule, Scope, AllOf, BindsOnly, Grew, State, bindings, hole_count, resolved_type, with_new_hole, stays_with, Given, InferenceContext, Closes, IsSound, found_under, expected_under, known_hole, known_or, known_step, with_table, IsFine, IsFineExpectation, is_fine_head, Found, CoerceDone, Before, Debt, Owed, Walks, IsCoerced}
 use Rattle.hir_types.specs.declared.head.HoleKind.TheVariants as kind
 use Rattle.hir_types.specs.declared.ty.Ty.TheVariants as ty
-use Rattle.hir_raw.specs.declared.schedule.Schedule.{Schedule}
-use Rattle.infer_table.proofs.HoleLaws.{grew_by_hole}
-use Rattle.hir_raw.specs.Scope.{Scope}
-use Rattle.infer_table.specs.Bindings.{AllOf}
-use Rattle.infer_table.specs.Preserved.{BindsOnly}
-use Rattle.infer_table.specs.Solutions.{log_of}
-use Rattle.infer_table.specs.Table.{Grew, State, bindings, hole_count, resolved_type, with_new_hole}
-use Rattle.infer_ctx.specs.Below.{stays_with}
-use Rattle.infer_result.specs.Places.{Given}
-use Rattle.infer_ctx.specs.declared.context.InferenceContext.{InferenceContext}
-use Rattle.infer_ctx.specs.Closings.{Closes, IsSound, found_under, expected_under}
-use Rattle.infer_ctx.specs.Context.{known_hole, known_or, known_step, with_table}
-use Rattle.infer_ctx.specs.Fine.{IsFine, IsFineExpectation, is_fine_head}
-use Rattle.infer_ctx.specs.Found.{Found}
-use Rattle.infer_ctx.specs.Steps.{CoerceDone, Before}
-use Rattle.infer_ctx.specs.Walks.{Debt, Owed, Walks}
-use Rattle.infer_ctx.proofs.Asked.{told_same}
-use Rattle.infer_ctx.proofs.AtEach.{follows_twice, closes_before}
-use Rattle.infer_ctx.proofs.Category.{walks_paid}
-use Rattle.infer_ctx.proofs.UnderClosings.{closes_earlier}
-use Rattle.infer_ctx.proofs.FineTypes.{fine_grown, fine_hole}
-use Rattle.infer_ctx.proofs.OverTypes.{fine_closed}
-use Rattle.infer_coerce.specs.Coercions.{IsCoerced}
-use Rattle.infer_coerce.proofs.Coercions.{placed_at, placed_owed, coerced_walks, coerced_placed, coerced_clock}
-use Rattle.infer_coerce.proofs.Holes.{holed_sound}
-use Rattle.infer_coerce.proofs.Resolved.{resolved_fine}
+use Rattle.infer_tuples.proofs.Words.{grew_by_hole, told_same, follows_twice, closes_before, walks_paid, closes_earlier, fine_grown, fine_hole, fine_closed, placed_at, placed_owed, coerced_walks, coerced_placed, coerced_clock, holed_sound, resolved_fine}
+use Rattle.infer_tuples.specs.Words.infer_table.Solutions.{log_of}
 
 -- ---- what is expected of the tuple
 

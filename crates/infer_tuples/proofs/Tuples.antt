@@ -2,41 +2,12 @@
 use Rattle.std.proofs.Common.{inl, inr, refl, Option, Some, None, ◌<◌, length, ◌∙◌, ℕ, ◌≡◌, List, take, [], ◌+◌, ◌∷◌, ap, arith, slice_get, ◌≤◌, ◌++◌, get_or, map, sym, subst, length-append}
 use Rattle.std.proofs.lemmas.List.{length-map, map-append, take_all}
 use Rattle.std.proofs.lemmas.Option.{slice_get_read}
-use Rattle.hir_types.specs.declared.ids.ExprId.{ExprId}
+use Rattle.infer_tuples.specs.Words.{ExprId, Ty, folded, Assignment, with_holes, replaced_tuple, IsCarriedType, inner, element, expr_part, exprs_from, parts_of_expr, part_at, Schedule, Given, IsAtOrMismatch, Demand, AllAt, HasTy, InferenceResult, TypeMismatch, InferenceContext, Closes, found_under, element_type, IsFineExpectation, AllFine, Found, Before, CoerceDone, KindDone, Within, KindWalked, Debt, OwedAmong, PaidBy}
 use Rattle.hir_types.specs.declared.ids.ExprOrPatId.TheVariants as node
-use Rattle.hir_types.specs.declared.ty.Ty.{Ty}
 use Rattle.hir_types.specs.declared.ty.Ty.TheVariants as ty
-use Rattle.hir_types.specs.Subst.{folded, Assignment, with_holes}
-use Rattle.hir_types.specs.Replacements.{replaced_tuple}
-use Rattle.hir_facts.specs.CarriedTypes.{IsCarriedType}
-use Rattle.hir_raw.specs.Order.{inner, element, expr_part, exprs_from, parts_of_expr, part_at}
-use Rattle.hir_raw.specs.declared.raw.RawExpr.TheVariants as expr
-use Rattle.hir_raw.specs.declared.schedule.Schedule.{Schedule}
-use Rattle.infer_result.specs.Places.{Given, IsAtOrMismatch}
-use Rattle.infer_result.specs.Demands.{Demand}
-use Rattle.infer_result.specs.Kinds.Tuple.{AllAt}
-use Rattle.infer_result.specs.Table.{HasTy}
-use Rattle.infer_result.specs.declared.result.InferenceResult.{InferenceResult}
-use Rattle.infer_result.specs.declared.result.TypeMismatch.{TypeMismatch}
-use Rattle.infer_ctx.specs.declared.context.InferenceContext.{InferenceContext}
-use Rattle.infer_ctx.specs.Closings.{Closes, found_under}
-use Rattle.infer_ctx.specs.Context.{element_type}
-use Rattle.infer_ctx.specs.Fine.{IsFineExpectation, AllFine}
-use Rattle.infer_ctx.specs.Found.{Found}
-use Rattle.infer_ctx.specs.Steps.{Before, CoerceDone, KindDone, Within}
-use Rattle.infer_ctx.specs.Under.{KindWalked}
-use Rattle.infer_ctx.specs.Walks.{Debt, OwedAmong, PaidBy}
-use Rattle.infer_ctx.proofs.AtEach.{closes_before}
-use Rattle.infer_ctx.proofs.Category.{walks_paid}
-use Rattle.infer_ctx.proofs.FineTypes.{all_fine_grown, fine_push, fine_tuple, fine_element, fine_expectation_grown}
-use Rattle.infer_ctx.proofs.InParts.{AtPart, begins_parts, comes_to_part, past_coerced_part, all_past, expr_at}
-use Rattle.infer_ctx.proofs.Keeps.{all_kept}
-use Rattle.infer_ctx.proofs.Leaves.{rule_of}
-use Rattle.infer_ctx.proofs.Lists.{slice_get-append_left, slice_get-push, take_next}
-use Rattle.infer_ctx.proofs.OverTypes.{fine_closed}
-use Rattle.infer_ctx.proofs.Parts.{all_push}
-use Rattle.infer_ctx.proofs.Tellings.{tuple_tells}
-use Rattle.infer_tuples.specs.Tuples.{IsTupleOf}
+use Rattle.infer_tuples.specs.Words.hir_raw.declared.raw.RawExpr.TheVariants as expr
+use Rattle.infer_tuples.proofs.Words.{closes_before, walks_paid, all_fine_grown, fine_push, fine_tuple, fine_element, fine_expectation_grown, AtPart, begins_parts, comes_to_part, past_coerced_part, all_past, expr_at, all_kept, rule_of, slice_get-append_left, slice_get-push, take_next, fine_closed, all_push, tuple_tells}
+use Rattle.infer_tuples.specs.Own.{IsTupleOf}
 
 -- what a tuple asks of its elements, once it has its type
 element_demand : (g : Given) (n : ExprId) (es : List ExprId) (ts : List Ty) → n.0 < length g.body.exprs → IsTupleOf g.body n es →

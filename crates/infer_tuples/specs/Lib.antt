@@ -1,1 +1,3 @@
 pub mod Tuples
+pub mod Words
+pub mod Own

@@ -1,14 +1,11 @@
 //! The types of tuples.
 ghost use Rattle.std.specs.Prelude.{◌≡◌, IfOk, Some, None};
-ghost use Rattle.infer_ctx.specs.Context.{given_of, scope_in, schedule_of, expected_type, known_hole};
-ghost use Rattle.infer_ctx.specs.Fine.{IsFineExpectation};
-ghost use Rattle.infer_tuples.specs.Tuples.{IsTupleOf};
-ghost use Rattle.infer_ctx.specs.Steps.{Before, CoerceDone, Within, KindDone};
-ghost use Rattle.infer_coerce.specs.Recursion.{InfersFrom};
+ghost use Rattle.infer_tuples.specs.Words.{given_of, scope_in, schedule_of, expected_type, known_hole, IsFineExpectation, Before, CoerceDone, Within, KindDone, InfersFrom};
+ghost use Rattle.infer_tuples.specs.Own.{IsTupleOf};
 
-use hir_facts::{ExprId, List, Ty};
+use infer_coerce::hir_facts::{ExprId, List, Ty};
+use infer_coerce::infer_ctx::{Expectation, GivenBody, InferenceContext};
 use infer_coerce::{demand_coerce, infer_expr_coerce};
-use infer_ctx::{Expectation, GivenBody, InferenceContext};
 use std::alloc::{AllocError, Global};
 
 /// The type of a tuple, whose elements are expected to have the types of what is expected of

@@ -1,20 +1,11 @@
 -- What becomes of two terms, by what was opened, made equal, followed and judged.
 use Rattle.std.specs.Prelude.{◌≡◌, ℕ, true, false, List, [], ◌++◌, length}
 use Rattle.std.proofs.Common.{inl, inr, sym, ap, ◌∙◌, subst}
-use Rattle.hir_types.specs.declared.ty.Ty.{Ty}
-use Rattle.hir_types.specs.Terms.{Term, term}
-use Rattle.infer_table.specs.Solutions.{Log, Triangular, UnifiedIf}
-use Rattle.goal_answers.specs.Reading.{IsRead}
-use Rattle.goal_answers.specs.Goals.{System, Verdicts}
-use Rattle.goal_answers.specs.Answers.{answers}
-use Rattle.goal_facts.proofs.Systems.{each_append}
-use Rattle.goal_terms.specs.Terms.{IsHead, HasHeads}
-use Rattle.infer_unify.specs.declared.unification.Unification.{Unification}
+use Rattle.infer_unify.specs.Words.{Ty, Term, term, Log, Triangular, UnifiedIf, IsRead, System, Verdicts, answers, IsHead, HasHeads}
+use Rattle.infer_unify.proofs.Words.{each_append}
+use Rattle.infer_unify.specs.Own.{Unification, Alias, opened, second_opened, IsOpened, above_both, AreOpened, HaveHeads, IsFound, IsAll, AreJudged, Becomes, AreFollowed, AreRounds}
 use Rattle.infer_unify.specs.declared.unification.Unification.TheVariants as unification
-use Rattle.infer_unify.specs.Opening.{Alias, opened, second_opened, IsOpened, above_both, AreOpened, HaveHeads}
 use Rattle.infer_unify.proofs.Lists.{HasLists, type_lists}
-use Rattle.infer_unify.specs.Unifying.{IsFound, IsAll, AreJudged, Becomes}
-use Rattle.infer_unify.specs.Following.{AreFollowed, AreRounds}
 use Rattle.infer_unify.proofs.Openings.{opened_heads, aliases_heads, opened_read}
 use Rattle.infer_unify.proofs.Steps.{common_in}
 use Rattle.infer_unify.proofs.Settling.{all_found}

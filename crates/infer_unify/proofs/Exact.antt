@@ -1,17 +1,9 @@
 -- Types without associated types and without `{unknown}` unify exactly where some types for their holes make them the same.
 use Rattle.std.specs.Prelude.{◌≡◌, ◌⊎◌, ◌++◌, Bool, true, false, List, []}
 use Rattle.std.proofs.Common.{inl, inr, refl, sym, ap, ◌∙◌, subst, true≢false}
-use Rattle.hir_types.specs.declared.ty.Ty.{Ty}
-use Rattle.hir_types.specs.Faithful.{erased_tells}
-use Rattle.hir_types.specs.Subst.{folded}
-use Rattle.hir_types.specs.Terms.{Term, term, terms_of}
-use Rattle.hir_types.specs.TermLaws.{term_folded}
-use Rattle.goal_answers.specs.Goals.{Verdicts}
-use Rattle.infer_unify.specs.declared.unification.Unification.{Unification}
+use Rattle.infer_unify.specs.Words.{Ty, erased_tells, folded, Term, term, terms_of, term_folded, Verdicts}
+use Rattle.infer_unify.specs.Own.{Unification, CanBeSame, UnifyExactly, IsExact, Alias, Opened, as_it_is, opened, second_opened, above_both, AreOpened, IsBare, HaveCommon, Becomes, BecomesFrom}
 use Rattle.infer_unify.specs.declared.unification.Unification.TheVariants as unification
-use Rattle.infer_unify.specs.Exactly.{CanBeSame, UnifyExactly, IsExact}
-use Rattle.infer_unify.specs.Opening.{Alias, Opened, as_it_is, opened, second_opened, above_both, AreOpened, IsBare}
-use Rattle.infer_unify.specs.Unifying.{HaveCommon, Becomes, BecomesFrom}
 use Rattle.infer_unify.proofs.Openings.{opened_bare}
 use Rattle.infer_unify.proofs.ReadBack.{back, same_back, back_respects}
 

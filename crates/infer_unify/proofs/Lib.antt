@@ -8,3 +8,4 @@ pub mod Exact
 pub mod Over
 pub mod SameAnswers
 pub mod OneOutcome
+pub mod Words

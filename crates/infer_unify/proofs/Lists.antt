@@ -1,23 +1,11 @@
 -- In the terms of types, what makes an associated type that is to be read stands first, and behind it a list.
 use Rattle.std.proofs.Common.{◌≡◌, ◌++◌, refl, sym, subst, List, [], ◌∷◌, map, Some, None}
 use Rattle.std.specs.List.{flat_map}
-use Rattle.hir_types.specs.declared.ids.TraitId.{TraitId}
-use Rattle.hir_types.specs.declared.head.Head.{Head}
+use Rattle.infer_unify.specs.Words.{TraitId, Head, Const, Ty, Ty-F, roll-Ty, map-Ty, ind-Ty, GenericArg, GenericArg-F, roll-GenericArg, map-GenericArg, TraitRef, TraitRef-F, roll-TraitRef, map-TraitRef, AliasBound, AliasBound-F, roll-AliasBound, map-AliasBound, in_arg, in_ty, Term, hole, leaf, pair, chain, node, const_term, type_part, const_part, arg_step, auto_parts, ty_step, term, arg_term, trait_parts, bound_parts, terms, term_at, arg_term_at, trait_parts_is, bound_parts_is, plain, alias, role, IsReadLeaf, IsRead, Each, IsHead}
 use Rattle.hir_types.specs.declared.head.Head.TheVariants as head
-use Rattle.hir_types.specs.declared.ty.Const.{Const}
 use Rattle.hir_types.specs.declared.ty.Const.TheVariants as const
-use Rattle.hir_types.specs.declared.ty.Ty.{Ty, Ty-F, roll-Ty, map-Ty, ind-Ty}
-use Rattle.hir_types.specs.declared.ty.GenericArg.{GenericArg, GenericArg-F, roll-GenericArg, map-GenericArg}
-use Rattle.hir_types.specs.declared.ty.TraitRef.{TraitRef, TraitRef-F, roll-TraitRef, map-TraitRef}
-use Rattle.hir_types.specs.declared.ty.AliasBound.{AliasBound, AliasBound-F, roll-AliasBound, map-AliasBound}
-use Rattle.hir_types.specs.Folds.{in_arg, in_ty}
-use Rattle.hir_types.specs.Terms.{Term, hole, leaf, pair, chain, node, const_term, type_part, const_part, arg_step, auto_parts, ty_step, term, arg_term, trait_parts, bound_parts}
-use Rattle.hir_types.specs.TermLaws.{terms, term_at, arg_term_at, trait_parts_is, bound_parts_is}
-use Rattle.goal_answers.specs.Reading.{Role, plain, alias, role, IsReadLeaf, IsRead}
-use Rattle.goal_answers.specs.Goals.{Each}
-use Rattle.goal_terms.specs.Terms.{IsHead}
-use Rattle.goal_facts.proofs.Arguing.{list_is_head}
-use Rattle.goal_facts.proofs.Systems.{each_append}
+use Rattle.infer_unify.specs.Words.goal_answers.Reading.{Role}
+use Rattle.infer_unify.proofs.Words.{list_is_head, each_append}
 
 -- behind the mark of an associated type that is to be read stands a list
 abbrev pub IsListBehind : Role → Term → Type 0

@@ -1,29 +1,11 @@
 -- Two types have one outcome: what is found out in one way is so in each, as far as it can be.
 use Rattle.std.specs.Prelude.{◌≡◌, ℕ, Bool, IsTrue, List, [], ◌∷◌, slice_get, Some}
 use Rattle.std.proofs.Common.{inl, inr, refl, sym, ap, ◌∙◌, subst}
-use Rattle.hir_types.specs.declared.ids.GenericDefId.{GenericDefId}
+use Rattle.infer_unify.specs.Words.{GenericDefId, Ty, Term, hole, pair, term, RawFacts, Log, Solves, Triangular, solution, solution_solves, solution_respects, solution_apply, resolved_apply, IsRead, Aliases, Asked, System, Each, SomeOf, Verdicts, asked_at, answers, Sources, system, IsSystemOf}
 use Rattle.hir_types.specs.declared.head.Hole.TheVariants as hole_of
-use Rattle.hir_types.specs.declared.ty.Ty.{Ty}
-use Rattle.hir_types.specs.Terms.{Term, hole, pair, term}
-use Rattle.hir_raw.specs.declared.raw.RawFacts.{RawFacts}
-use Rattle.infer_table.specs.Solutions.{Log, Solves, Triangular}
-use Rattle.infer_table.specs.LogLemmas.{solution, solution_solves, solution_respects, solution_apply, resolved_apply}
-use Rattle.goal_answers.specs.Reading.{IsRead, Aliases}
-use Rattle.goal_answers.specs.Goals.{Asked, System, Each, SomeOf, Verdicts, asked_at}
-use Rattle.goal_answers.specs.Answers.{answers}
-use Rattle.goal_answers.proofs.Deeper.{IsWithin}
-use Rattle.goal_answers.proofs.Filled.{answers_stay}
-use Rattle.goal_answers.proofs.Lists.{each_map, some_map, some_each}
-use Rattle.goal_answers.proofs.One.{answers_are_one}
-use Rattle.goal_answers.proofs.Readings.{reads_within}
-use Rattle.goal_search.specs.declared.sources.Sources.{Sources}
-use Rattle.goal_search.specs.Sources.{system}
-use Rattle.goal_facts.specs.Systems.{IsSystemOf}
-use Rattle.goal_facts.proofs.Systems.{each_get}
-use Rattle.infer_unify.specs.declared.unification.Unification.{Unification}
+use Rattle.infer_unify.proofs.Words.{IsWithin, answers_stay, each_map, some_map, some_each, answers_are_one, reads_within, each_get}
+use Rattle.infer_unify.specs.Own.{Unification, Alias, AreOpened, known_alias, goal_of, IsStep, IsNoStep, AreSteps, IsFound, IsSettled, IsAll, HaveCommon, AreJudged, IsRefuted, Becomes, IsUnification, could, deeply, IsTestOf, IsOnlyOutcome, IsOnlyTestOf, OnlyWhere}
 use Rattle.infer_unify.specs.declared.unification.Unification.TheVariants as unification
-use Rattle.infer_unify.specs.Opening.{Alias, AreOpened}
-use Rattle.infer_unify.specs.Unifying.{known_alias, goal_of, IsStep, IsNoStep, AreSteps, IsFound, IsSettled, IsAll, HaveCommon, AreJudged, IsRefuted, Becomes, IsUnification, could, deeply, IsTestOf, IsOnlyOutcome, IsOnlyTestOf, OnlyWhere}
 use Rattle.infer_unify.proofs.Becoming.{types_read}
 use Rattle.infer_unify.proofs.SameAnswers.{same_answers}
 use Rattle.infer_unify.proofs.Settling.{Tells, IsOfRead, IsGood, good_fills, told_equal, step_of_read}

@@ -1,16 +1,11 @@
 -- What each step of opening a term comes to.
 use Rattle.std.specs.Prelude.{◌≡◌, ℕ, ◌+◌, List, [], ◌∷◌, ◌++◌}
 use Rattle.std.proofs.Common.{refl, sym, ap, ◌∙◌, subst, append_assoc}
-use Rattle.hir_types.specs.declared.ids.TypeAliasId.{TypeAliasId}
-use Rattle.hir_types.specs.declared.head.Head.{Head}
+use Rattle.infer_unify.specs.Words.{TypeAliasId, Head, Hole, Term, hole, leaf, pair, role, IsReadLeaf, IsRead, IsHead, HasHeads}
 use Rattle.hir_types.specs.declared.head.Head.TheVariants as head
-use Rattle.hir_types.specs.declared.head.Hole.{Hole}
 use Rattle.hir_types.specs.declared.head.Hole.TheVariants as hole_of
-use Rattle.hir_types.specs.Terms.{Term, hole, leaf, pair}
-use Rattle.goal_answers.specs.Reading.{role, IsReadLeaf, IsRead}
-use Rattle.goal_facts.proofs.Systems.{each_append}
-use Rattle.goal_terms.specs.Terms.{IsHead, HasHeads}
-use Rattle.infer_unify.specs.Opening.{Place, plain, alias, unknown_type, unknown_const, place, Alias, Opened, as_it_is, behind, joined, opened, IsOpened, HaveHeads, IsBare}
+use Rattle.infer_unify.proofs.Words.{each_append}
+use Rattle.infer_unify.specs.Own.{Place, plain, alias, unknown_type, unknown_const, place, Alias, Opened, as_it_is, behind, joined, opened, IsOpened, HaveHeads, IsBare}
 use Rattle.infer_unify.proofs.Lists.{IsListBehind, HasLists}
 
 -- ---- a head with parts behind it

@@ -2,10 +2,8 @@
 use Rattle.std.specs.Prelude.{◌≡◌, ◌⊎◌, ℕ, zero, suc, List, [], ◌∷◌, ◌++◌, map, slice_get, Some}
 use Rattle.std.proofs.Common.{inl, inr, refl, sym, ap, subst, arith}
 use Rattle.std.proofs.lemmas.Option.{same_Some}
-use Rattle.goal_answers.specs.Goals.{Asked, Each, SomeOf, OneOf}
-use Rattle.goal_answers.proofs.Lists.{each_map}
-use Rattle.goal_facts.specs.Additions.{Has, AreDistinct}
-use Rattle.goal_facts.proofs.Systems.{each_get}
+use Rattle.infer_unify.specs.Words.{Asked, Each, SomeOf, OneOf, Has, AreDistinct}
+use Rattle.infer_unify.proofs.Words.{each_map, each_get}
 
 pub record IsOver {X : Type 0} (xs ys : List X) : Type 1 where
   pub each : (P : X → Type 0) → Each P xs → Each P ys

@@ -1,27 +1,13 @@
 -- What stands for holes, read back as types: what terms make the same, types do.
 use Rattle.std.proofs.Common.{◌≡◌, ◌++◌, refl, sym, ap, subst, ◌∙◌, List, [], ◌∷◌, map, Some, None}
 use Rattle.std.specs.List.{flat_map}
-use Rattle.hir_types.specs.declared.ids.TraitId.{TraitId}
-use Rattle.hir_types.specs.declared.head.Head.{Head}
+use Rattle.infer_unify.specs.Words.{TraitId, Head, Hole, Const, Ty, Ty-F, GenericArg, GenericArg-F, roll-GenericArg, out-GenericArg, fold_out-GenericArg, TraitRef, roll-TraitRef, AliasBound, roll-AliasBound, no_label, erased_step, erased, Same, map_twice, Steps, Maps, folds_follow, GoBySteps, unique, maps_after, in_arg, in_ty, in_bound, in_trait, in_arg_twice, in_ty_twice, erased_steps, erasing, ReadPart, mark, const_of, unread, types, arg_of, leading_args, all_but_last, bound_before, bounds_of, auto_before, autos_of, read, type_of_term, const_of_term, term_erased, term_tells, replacing, at_ty, at_arg, trait_replaced_is, bound_replaced_is, ty_layer, arg_layer, Assignment, with_holes, folded, const_folded, arg_folded, bound_replaced, trait_folded, Term, hole, leaf, pair, apply, chain, node, const_term, type_part, arg_step, auto_parts, ty_step, bound_step, trait_step, term, arg_term, trait_parts, bound_parts, terms_of, IsInt, terms, term_at, arg_term_at, trait_parts_is, bound_parts_is, term_folded, term_int, term_uint, term_int_var, Respects}
 use Rattle.hir_types.specs.declared.head.Head.TheVariants as head
-use Rattle.hir_types.specs.declared.head.Hole.{Hole}
 use Rattle.hir_types.specs.declared.head.Hole.TheVariants as hole_of
-use Rattle.hir_types.specs.declared.ty.Const.{Const}
 use Rattle.hir_types.specs.declared.ty.Const.TheVariants as const
-use Rattle.hir_types.specs.declared.ty.Ty.{Ty, Ty-F}
 use Rattle.hir_types.specs.declared.ty.Ty.TheVariants as ty
-use Rattle.hir_types.specs.declared.ty.GenericArg.{GenericArg, GenericArg-F, roll-GenericArg, out-GenericArg, fold_out-GenericArg}
 use Rattle.hir_types.specs.declared.ty.GenericArg.TheVariants as arg
-use Rattle.hir_types.specs.declared.ty.TraitRef.{TraitRef, roll-TraitRef}
-use Rattle.hir_types.specs.declared.ty.AliasBound.{AliasBound, roll-AliasBound}
-use Rattle.hir_types.specs.Erasure.{no_label, erased_step, erased, Same}
-use Rattle.hir_types.specs.Folds.{map_twice, Steps, Maps, folds_follow, GoBySteps, unique, maps_after, in_arg, in_ty, in_bound, in_trait, in_arg_twice, in_ty_twice}
-use Rattle.hir_types.specs.Faithful.{erased_steps, erasing, ReadPart, mark, type_of, const_of, unread, types, arg_of, leading_args, all_but_last, last, bound_before, bounds_of, auto_before, autos_of, read, type_of_term, const_of_term, term_erased, term_tells}
-use Rattle.hir_types.specs.Replacements.{replacing, at_ty, at_arg, trait_replaced_is, bound_replaced_is}
-use Rattle.hir_types.specs.Subst.{ty_layer, arg_layer, Assignment, with_holes, folded, const_folded, arg_folded, bound_replaced, trait_folded}
-use Rattle.hir_types.specs.Terms.{Term, hole, leaf, pair, apply, chain, node, const_term, type_part, arg_step, auto_parts, ty_step, bound_step, trait_step, term, arg_term, trait_parts, bound_parts, terms_of, IsInt}
-use Rattle.hir_types.specs.TermLaws.{terms, term_at, arg_term_at, trait_parts_is, bound_parts_is, term_folded, term_int, term_uint, term_int_var}
-use Rattle.infer_table.specs.Solutions.{Respects}
+use Rattle.hir_types.specs.Faithful.{type_of, last}
 
 -- ---- parts that are read
 

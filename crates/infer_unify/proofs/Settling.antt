@@ -1,24 +1,10 @@
 -- Rounds that find out what associated types read as: after as many as there are some nothing more can be found out so.
 use Rattle.std.specs.Prelude.{◌≡◌, ◌⊎◌, ◌+◌, ◌<◌, ◌≤◌, ℕ, zero, suc, Bool, true, false, List, [], ◌∷◌, length}
 use Rattle.std.proofs.Common.{inl, inr, refl, sym, ap, ap₂, ◌∙◌, subst, arith}
-use Rattle.hir_types.specs.declared.head.Hole.{Hole}
+use Rattle.infer_unify.specs.Words.{Hole, Term, hole, pair, apply, Log, resolved, Solves, Triangular, Unified, pair_left, pair_right, triangular_left, solution, solution_solves, solution_apply, resolved_apply, IsRead, IsFilling, Aliases, alias_at, ReadsAs, System, Each, answers}
 use Rattle.hir_types.specs.declared.head.Hole.TheVariants as hole_of
-use Rattle.hir_types.specs.Terms.{Term, hole, pair, apply}
-use Rattle.infer_table.specs.Solutions.{Log, resolved, Solves, Triangular, Unified}
-use Rattle.infer_table.specs.TermLemmas.{pair_left, pair_right}
-use Rattle.infer_table.specs.LogLemmas.{triangular_left, solution, solution_solves, solution_apply, resolved_apply}
-use Rattle.goal_answers.specs.Reading.{IsRead, IsFilling, Aliases, alias_at, ReadsAs}
-use Rattle.goal_answers.specs.Goals.{System, Each}
-use Rattle.goal_answers.specs.Answers.{answers}
-use Rattle.goal_answers.proofs.Filled.{answers_stay}
-use Rattle.goal_answers.proofs.Levels.{reads_read, answers_read}
-use Rattle.goal_answers.proofs.Lists.{each_map}
-use Rattle.goal_answers.proofs.One.{answers_are_one}
-use Rattle.goal_answers.proofs.Readings.{reads_as_filled, reads_one}
-use Rattle.goal_terms.proofs.Read.{solution_filling}
-use Rattle.infer_unify.specs.Opening.{Alias}
-use Rattle.infer_unify.specs.Unifying.{known_alias, IsStepOf, IsSettled, IsAll}
-use Rattle.infer_unify.specs.Following.{IsFollowed, IsRound, AreRounds}
+use Rattle.infer_unify.proofs.Words.{answers_stay, reads_read, answers_read, each_map, answers_are_one, reads_as_filled, reads_one, solution_filling}
+use Rattle.infer_unify.specs.Own.{Alias, known_alias, IsStepOf, IsSettled, IsAll, IsFollowed, IsRound, AreRounds}
 
 -- what solves the first solves the second
 abbrev pub Tells : Log → Log → Type 0

@@ -3,26 +3,11 @@ use Rattle.std.specs.Prelude.{◌≡◌, ◌<◌, ◌≤◌, ◌+◌, ℕ, zero,
 use Rattle.std.proofs.Common.{inl, inr, refl, sym, ap, ◌∙◌, subst, arith, get_or, take}
 use Rattle.std.proofs.lemmas.List.{map_more, take_all}
 use Rattle.hir_types.specs.declared.head.Hole.TheVariants as hole_of
-use Rattle.hir_types.specs.Terms.{Term, hole, pair}
-use Rattle.infer_table.specs.Solutions.{Log, resolved, Solves, Triangular, Unified, NoneUnifies, UnifiedIf}
-use Rattle.infer_table.specs.LogLemmas.{solution, solution_solves, solution_respects}
-use Rattle.goal_answers.specs.Reading.{Aliases, alias_at, ReadsAs}
-use Rattle.goal_answers.specs.Goals.{System, Each, SomeOf, Verdicts}
-use Rattle.goal_answers.specs.Answers.{answers}
-use Rattle.goal_answers.proofs.Lists.{each_map}
-use Rattle.goal_answers.proofs.One.{answers_are_one}
-use Rattle.goal_terms.specs.Terms.{IsHead, HasHeads}
-use Rattle.goal_terms.specs.Unifying.{HaveHeads as LogHasHeads}
-use Rattle.goal_terms.proofs.HeadLaws.{heads_resolved}
-use Rattle.goal_search.specs.Searching.{SystemHasHeads}
-use Rattle.goal_search.proofs.Heads.{reading_done}
-use Rattle.goal_facts.proofs.Systems.{each_append}
-use Rattle.infer_unify.specs.declared.unification.Unification.{Unification}
+use Rattle.infer_unify.specs.Words.{Term, hole, pair, Log, resolved, Solves, Triangular, Unified, NoneUnifies, UnifiedIf, solution, solution_solves, solution_respects, Aliases, alias_at, ReadsAs, System, Each, SomeOf, Verdicts, answers, IsHead, HasHeads, HaveHeads as LogHasHeads, SystemHasHeads}
+use Rattle.infer_unify.proofs.Words.{each_map, answers_are_one, heads_resolved, reading_done, each_append}
+use Rattle.infer_unify.specs.Own.{Unification, Alias, alias_of, aliases_of, known_alias, goal_of, IsStep, AreSteps, IsFound, HaveCommonIn, AreJudged, IsFollowed, AreFollowed, IsRound, AreRounds}
 use Rattle.infer_unify.specs.declared.unification.Unification.TheVariants as unification
 use Rattle.infer_unify.specs.declared.opening.Alias.{Alias as Owned}
-use Rattle.infer_unify.specs.Opening.{Alias, alias_of, aliases_of}
-use Rattle.infer_unify.specs.Unifying.{known_alias, goal_of, IsStep, AreSteps, IsFound, HaveCommonIn, AreJudged}
-use Rattle.infer_unify.specs.Following.{IsFollowed, AreFollowed, IsRound, AreRounds}
 
 -- ---- the entry at a place
 

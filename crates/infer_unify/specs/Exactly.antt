@@ -1,10 +1,6 @@
 -- Types without associated types and without `{unknown}`: which of them unify.
 use Rattle.std.specs.Prelude.{◌≡◌, ◌⊎◌, ◌↔◌, Bool, IsTrue}
-use Rattle.hir_types.specs.declared.ty.Ty.{Ty}
-use Rattle.hir_types.specs.Erasure.{Same}
-use Rattle.hir_types.specs.Subst.{Assignment, folded}
-use Rattle.hir_types.specs.Terms.{term, terms_of}
-use Rattle.infer_table.specs.Solutions.{Respects}
+use Rattle.infer_unify.specs.Words.{Ty, Same, Assignment, folded, term, terms_of, Respects}
 use Rattle.infer_unify.specs.declared.unification.Unification.{Unification}
 use Rattle.infer_unify.specs.declared.unification.Unification.TheVariants as unification
 use Rattle.infer_unify.specs.Opening.{IsBare}

@@ -1,8 +1,6 @@
 -- How it is found out what associated types read as: one after another, and all of them as many times as there are of them.
 use Rattle.std.specs.Prelude.{◌≡◌, ◌⊎◌, ℕ, zero, suc, Bool, true, false, List, [], ◌∷◌}
-use Rattle.hir_types.specs.Terms.{Term}
-use Rattle.infer_table.specs.Solutions.{Log}
-use Rattle.goal_answers.specs.Reading.{Aliases, ReadsAs}
+use Rattle.infer_unify.specs.Words.{Term, Log, Aliases, ReadsAs}
 use Rattle.infer_unify.specs.Opening.{Alias}
 use Rattle.infer_unify.specs.Unifying.{known_alias, IsStepOf, IsNoStepOf, AreSteps, IsNoStep}
 

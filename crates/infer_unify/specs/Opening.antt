@@ -1,13 +1,8 @@
 -- Types with holes in the places of associated types that are to be read, and of `{unknown}`.
 use Rattle.std.specs.Prelude.{◌≡◌, ℕ, ◌+◌, max, List, [], ◌∷◌, ◌++◌, map, Option, Some, None}
-use Rattle.hir_types.specs.declared.ids.TypeAliasId.{TypeAliasId}
-use Rattle.hir_types.specs.declared.head.Head.{Head}
+use Rattle.infer_unify.specs.Words.{TypeAliasId, Head, Hole, Term, hole, leaf, pair, hole_number, Each, term_of, IsHead, HasHeads}
 use Rattle.hir_types.specs.declared.head.Head.TheVariants as head
-use Rattle.hir_types.specs.declared.head.Hole.{Hole}
 use Rattle.hir_types.specs.declared.head.Hole.TheVariants as hole_of
-use Rattle.hir_types.specs.Terms.{Term, hole, leaf, pair, hole_number}
-use Rattle.goal_answers.specs.Goals.{Each}
-use Rattle.goal_terms.specs.Terms.{term_of, IsHead, HasHeads}
 use Rattle.infer_unify.specs.declared.opening.Alias.{Alias as Owned}
 
 -- what a head makes of the parts behind it

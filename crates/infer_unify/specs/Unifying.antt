@@ -1,16 +1,7 @@
 -- Whether two types unify: what is found out of their holes, and what becomes of the associated types in them.
 use Rattle.std.specs.Prelude.{◌≡◌, ◌⊎◌, ℕ, Bool, true, false, IsTrue, List, [], ◌∷◌, slice_get, Some}
-use Rattle.hir_types.specs.declared.ids.GenericDefId.{GenericDefId}
-use Rattle.hir_types.specs.declared.head.Hole.{Hole}
+use Rattle.infer_unify.specs.Words.{GenericDefId, Hole, Ty, Term, hole, pair, apply, term, RawFacts, Log, resolved, Respects, Solves, Triangular, Unified, NoneUnifies, Aliases, alias_at, ReadsAs, projects, Asked, System, Each, SomeOf, Verdicts, answers, IsSystemOf}
 use Rattle.hir_types.specs.declared.head.Hole.TheVariants as hole_of
-use Rattle.hir_types.specs.declared.ty.Ty.{Ty}
-use Rattle.hir_types.specs.Terms.{Term, hole, pair, apply, term}
-use Rattle.hir_raw.specs.declared.raw.RawFacts.{RawFacts}
-use Rattle.infer_table.specs.Solutions.{Log, resolved, Respects, Solves, Triangular, Unified, NoneUnifies}
-use Rattle.goal_answers.specs.Reading.{Aliases, alias_at, ReadsAs}
-use Rattle.goal_answers.specs.Goals.{projects, Asked, System, Each, SomeOf, Verdicts}
-use Rattle.goal_answers.specs.Answers.{answers}
-use Rattle.goal_facts.specs.Systems.{IsSystemOf}
 use Rattle.infer_unify.specs.declared.unification.Unification.{Unification}
 use Rattle.infer_unify.specs.declared.unification.Unification.TheVariants as unification
 use Rattle.infer_unify.specs.Opening.{Alias, AreOpened}

@@ -1,28 +1,17 @@
 //! What is found out of the holes of two types, and what becomes of the associated types in them.
 ghost use Rattle.std.specs.Prelude.{◌≡◌, ◌≤◌, IsTrue, length, IfOk, option_map};
-ghost use Rattle.hir_types.specs.Terms.{hole, pair};
-ghost use Rattle.infer_table.specs.Solutions.{sub, resolved};
-ghost use Rattle.goal_answers.specs.Answers.{answers};
-ghost use Rattle.goal_answers.specs.Steps.{ReadingIs};
-ghost use Rattle.goal_terms.specs.Terms.{term_of, IsHead, HasHeads};
-ghost use Rattle.goal_terms.specs.Bindings.{log_of};
-ghost use Rattle.goal_terms.specs.Unifying.{IsLog};
-ghost use Rattle.goal_search.specs.Sources.{system};
-ghost use Rattle.goal_search.specs.Searching.{SystemHasHeads};
-ghost use Rattle.goal_facts.specs.Goals.{IsAnswer};
-ghost use Rattle.infer_unify.specs.Opening.{alias_of, aliases_of, HaveHeads};
-ghost use Rattle.infer_unify.specs.Unifying.{known_alias, goal_of, AreJudged};
-ghost use Rattle.infer_unify.specs.Following.{IsFollowed, AreFollowed, AreRounds};
+ghost use Rattle.infer_unify.specs.Words.{hole, pair, sub, resolved, answers, ReadingIs, term_of, IsHead, HasHeads, log_of, IsLog, system, SystemHasHeads, IsAnswer};
+ghost use Rattle.infer_unify.specs.Own.{alias_of, aliases_of, HaveHeads, known_alias, goal_of, AreJudged, IsFollowed, AreFollowed, AreRounds};
 
 use crate::opening::Alias;
 use crate::unification::Unification;
-use goal_search::{Answer, Asked, Holes, Kind, MOST_LEVELS, Search};
-use goal_terms::{Binding, MOST_DEPTH, Term, make_equal, stands_in};
+use goal_facts::goal_search::{Answer, Asked, Holes, Kind, MOST_LEVELS, Search};
+use goal_facts::goal_terms::{Binding, MOST_DEPTH, Term, make_equal, stands_in};
 use hir_types::{Head, Hole};
 use std::alloc::{AllocError, Global};
 
 /// The term with another in the place of a hole.
-#[tactic(auto, using(goal_terms::specs::Terms::term_is))]
+#[tactic(auto, using(crate::specs::Words::term_is))]
 fn put_in(alloc: Global, hole: Hole, put: &Term, term: &Term) -> Result<Term, AllocError>
     ensures { IfOk result (λ made. term_of made ≡ sub hole (term_of put.now) (term_of term.now)) }
 {

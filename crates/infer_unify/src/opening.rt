@@ -1,10 +1,9 @@
 //! Terms with holes in the places of associated types that are to be read, and of `{unknown}`.
 ghost use Rattle.std.specs.Prelude.{◌≡◌, ◌+◌, IfOk, OnOk};
-ghost use Rattle.hir_types.specs.Terms.{hole_number};
-ghost use Rattle.goal_terms.specs.Terms.{term_of};
-ghost use Rattle.infer_unify.specs.Opening.{aliases_of, IsOpened, IsPutFor, above, AreOpened};
+ghost use Rattle.infer_unify.specs.Words.{hole_number, term_of};
+ghost use Rattle.infer_unify.specs.Own.{aliases_of, IsOpened, IsPutFor, above, AreOpened};
 
-use goal_terms::Term;
+use goal_facts::goal_terms::Term;
 use hir_types::{Head, Hole, TypeAliasId};
 use std::alloc::{AllocError, Global};
 
@@ -40,7 +39,7 @@ fn number_of(hole: Hole) -> usize
 }
 
 /// The least number above those of all holes in the term.
-#[tactic(auto, using(goal_terms::specs::Terms::term_is))]
+#[tactic(auto, using(crate::specs::Words::term_is))]
 fn number_above(term: &Term) -> Result<usize, AllocError>
     ensures { IfOk result (λ n. n ≡ above (term_of term.now)) }
 {
@@ -90,7 +89,7 @@ impl Opening {
     }
 
     /// The term with holes in these places.
-    #[tactic(auto, using(goal_terms::specs::Terms::term_is))]
+    #[tactic(auto, using(crate::specs::Words::term_is))]
     fn open(&mut self, alloc: Global, term: &Term) -> Result<Term, AllocError>
         ensures { IfOk result (λ made. IsOpened self.old.next self.new.next (aliases_of self.old.aliases.items) (aliases_of self.new.aliases.items) (term_of term.now) (term_of made)) }
     {

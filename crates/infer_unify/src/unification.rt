@@ -1,19 +1,13 @@
 //! Whether two types unify, and whether nothing is left undecided then.
 ghost use Rattle.std.specs.Prelude.{◌≡◌, ◌≤◌, IsTrue, IfOk};
-ghost use Rattle.goal_answers.specs.Reading.{IsRead};
-ghost use Rattle.goal_answers.specs.Answers.{answers};
-ghost use Rattle.goal_terms.specs.Terms.{term_of, HasHeads};
-ghost use Rattle.goal_search.specs.Sources.{system};
-ghost use Rattle.goal_search.specs.Searching.{SystemHasHeads};
-ghost use Rattle.infer_unify.specs.Exactly.{UnifyExactly, IsExact};
-ghost use Rattle.infer_unify.specs.Opening.{aliases_of, HaveHeads};
-ghost use Rattle.infer_unify.specs.Unifying.{Becomes, IsUnification, IsOnlyOutcome, could, deeply, IsTestOf, IsOnlyTestOf, OnlyWhere};
+ghost use Rattle.infer_unify.specs.Words.{IsRead, answers, term_of, HasHeads, system, SystemHasHeads};
+ghost use Rattle.infer_unify.specs.Own.{UnifyExactly, IsExact, aliases_of, HaveHeads, Becomes, IsUnification, IsOnlyOutcome, could, deeply, IsTestOf, IsOnlyTestOf, OnlyWhere};
 
 use crate::known::{follow_all, judge};
 use crate::opening::{OpenedBoth, open_both};
+use goal_facts::goal_search::Search;
+use goal_facts::goal_terms::{MOST_DEPTH, make_equal, type_term};
 use goal_facts::{Facts, GenericDefId, ItemSources, Ty};
-use goal_search::Search;
-use goal_terms::{MOST_DEPTH, make_equal, type_term};
 use hir_types::Canonical;
 use std::alloc::{AllocError, Global};
 

@@ -9,7 +9,7 @@ mod unifying;
 mod waiting;
 
 ghost use Rattle.std.specs.Prelude.{OnOk};
-ghost use Rattle.infer_table.specs.Table.{Grew, HolesAreOf};
+ghost use Rattle.table_tests.specs.Words.{Grew, HolesAreOf};
 
 use hir_types::{Boxed, Const, ExprId, ExprOrPatId, HoleKind, List, Ty};
 use infer_table::InferenceTable;

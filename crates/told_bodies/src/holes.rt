@@ -1,8 +1,8 @@
 //! Law 9: types with a `_` that are not used once, in a body.
 
-use hir_facts::FactsList;
 use serde_json::Value;
 use std::fmt;
+use told_places::hir_facts::FactsList;
 use told_places::look::{items, list, number, type_id, type_parts, word};
 use told_places::place::Place;
 

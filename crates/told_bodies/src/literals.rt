@@ -1,9 +1,9 @@
 //! Law 8: literals without a value, and names of fields.
 
-use hir_facts::FactsList;
 use serde_json::Value;
 use std::alloc::{AllocError, Global};
 use std::fmt;
+use told_places::hir_facts::FactsList;
 use told_places::look::{list, number, word};
 use told_places::place::{Place, Quoted};
 

@@ -1,9 +1,9 @@
 //! Law 5: what is too long, too deep or too large.
 
-use hir_facts::FactsList;
 use serde_json::Value;
 use std::alloc::{AllocError, Global};
 use std::fmt;
+use told_places::hir_facts::FactsList;
 use told_places::look::{items, list, number, type_id, type_parts};
 use told_places::nodes::{Node, Nodes, Step};
 use told_places::place::Place;

@@ -1,9 +1,9 @@
 //! Law 0: what is not carried yet.
 
-use hir_facts::FactsList;
 use serde_json::Value;
 use std::alloc::{AllocError, Global};
 use std::fmt;
+use told_places::hir_facts::FactsList;
 use told_places::look::{is_there, items, list, number, type_id, type_parts, word};
 use told_places::place::Place;
 

@@ -1,9 +1,9 @@
 //! Law 2: counts that do not fit.
 
-use hir_facts::FactsList;
 use serde_json::Value;
 use std::alloc::{AllocError, Global};
 use std::fmt;
+use told_places::hir_facts::FactsList;
 use told_places::look::{items, list, number, type_id, type_parts, word};
 use told_places::place::{Counted, Place};
 

@@ -1,10 +1,10 @@
 //! Law 1: ids that are out of range, and lists that do not agree.
 
 use crate::goal_ids::{of_alias, of_goals, of_impl, of_trait};
-use hir_facts::FactsList;
 use serde_json::Value;
 use std::alloc::{AllocError, Global};
 use std::fmt;
+use told_places::hir_facts::FactsList;
 use told_places::look::{items, list, number, type_id, type_parts, word};
 use told_places::nodes::{Node, Nodes};
 use told_places::place::Place;

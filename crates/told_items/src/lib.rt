@@ -5,3 +5,5 @@ pub mod carried;
 pub mod counts;
 pub mod goal_ids;
 pub mod ids;
+
+pub use told_places;

@@ -4,3 +4,5 @@
 pub mod look;
 pub mod nodes;
 pub mod place;
+
+pub use hir_facts;

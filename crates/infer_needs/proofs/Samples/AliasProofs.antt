@@ -2,21 +2,10 @@
 -- though `<bool as Tr>::Out` is that.
 use Rattle.std.proofs.Common.{ℕ, zero, suc, ◌≡◌, inl, inr, List, [], ◌∷◌, refl, sym, ap, subst, ◌∙◌, true≢false, Some, slice_get}
 use Rattle.hir_types.specs.declared.head.Hole.TheVariants as hole_of
-use Rattle.hir_types.specs.declared.ids.ImplId.{ImplId}
-use Rattle.hir_types.specs.declared.ty.GenericArg.{GenericArg}
+use Rattle.infer_needs.specs.Words.{ImplId, GenericArg, hole, pair, term_bool, Fill, Aliases, Reads, staying, Asked, System, asked_at, only, Proof, ProofSource, IsListed, asked_goal, filled_goal, args_fill, IsSame, IsImplAt, SaysItself, IsBuiltIn, IsSource, Holds, AreProofs, IsSystemOf}
 use Rattle.hir_types.specs.declared.ty.Ty.TheVariants as ty
-use Rattle.hir_types.specs.Terms.{hole, pair}
-use Rattle.hir_types.specs.TermLaws.{term_bool}
-use Rattle.goal_answers.specs.Reading.{Fill, Aliases, Reads, staying}
-use Rattle.goal_answers.specs.Goals.{Asked, System, asked_at, only}
-use Rattle.goal_facts.specs.declared.proof.Proof.{Proof}
-use Rattle.goal_facts.specs.declared.proof.ProofSource.{ProofSource}
-use Rattle.goal_facts.specs.declared.proof.ProofSource.TheVariants as source
-use Rattle.goal_facts.specs.Bounds.{IsListed}
-use Rattle.goal_facts.specs.Goals.{asked_goal}
-use Rattle.goal_facts.specs.Proofs.{filled_goal, args_fill, IsSame, IsImplAt, SaysItself, IsBuiltIn, IsSource, Holds, AreProofs}
-use Rattle.goal_facts.specs.Systems.{IsSystemOf}
-use Rattle.infer_result.proofs.Samples.Small.{u8}
+use Rattle.infer_needs.specs.Words.goal_facts.declared.proof.ProofSource.TheVariants as source
+use Rattle.infer_needs.proofs.Words.{u8}
 use Rattle.infer_needs.proofs.Samples.Impls.{out, facts, own, u8_term, bool_term, char_term, w_term, param, implemented, found_as, for_u8, for_bool, for_w, u8_rules, bool_rules, w_rules, nothing_follows, nothing_listed, no_clauses}
 use Rattle.infer_needs.proofs.Samples.Sources.{reads_bare, same_bare, asks_out, asks_out_is, alias_source, is_alias_source, unshadowed, not_sized}
 use Rattle.infer_needs.proofs.Samples.ImplProofs.{i}

@@ -1,17 +1,9 @@
 -- The one list of arguments whose term is that of `bool` alone.
 use Rattle.std.specs.Prelude.{◌≡◌, List, [], ◌∷◌, map}
 use Rattle.std.proofs.Common.{sym, ap, ◌∙◌}
-use Rattle.hir_types.specs.declared.ty.AliasBound.{AliasBound}
-use Rattle.hir_types.specs.declared.ty.GenericArg.{GenericArg, GenericArg-F, roll-GenericArg, out-GenericArg, roll-out-GenericArg}
+use Rattle.infer_needs.specs.Words.{AliasBound, GenericArg, GenericArg-F, roll-GenericArg, out-GenericArg, roll-out-GenericArg, TraitRef, Ty, Ty-F, roll-Ty, out-Ty, roll-out-Ty, in_arg, in_ty, chain, type_part, arg_step, ty_step, term, arg_term, terms, term_at, arg_term_at, type_args, only}
 use Rattle.hir_types.specs.declared.ty.GenericArg.TheVariants as arg
-use Rattle.hir_types.specs.declared.ty.TraitRef.{TraitRef}
-use Rattle.hir_types.specs.declared.ty.Ty.{Ty, Ty-F, roll-Ty, out-Ty, roll-out-Ty}
 use Rattle.hir_types.specs.declared.ty.Ty.TheVariants as ty
-use Rattle.hir_types.specs.Folds.{in_arg, in_ty}
-use Rattle.hir_types.specs.Terms.{chain, type_part, arg_step, ty_step, term, arg_term}
-use Rattle.hir_types.specs.TermLaws.{terms, term_at, arg_term_at}
-use Rattle.hir_raw.specs.Signatures.{type_args}
-use Rattle.goal_answers.specs.Goals.{only}
 use Rattle.infer_needs.proofs.Samples.Impls.{bool_term}
 
 layer_is : (y : Ty-F GenericArg Ty AliasBound TraitRef) → ty_step (in_ty terms y) ≡ bool_term → roll-Ty y ≡ ty.Bool

@@ -2,42 +2,16 @@
 -- `char`. What they need of it reads as that `<bool as Tr>::Out` is `u8`, and that it is `char`: that is to be said.
 use Rattle.std.proofs.Common.{ℕ, zero, suc, ◌≡◌, ◌⊎◌, inl, inr, true, List, [], ◌∷◌, map, refl, sym, ap, subst, ◌∙◌, Some, None, slice_get}
 use Rattle.hir_types.specs.declared.goal.Goal.TheVariants as goal
-use Rattle.hir_types.specs.declared.ids.DefWithBodyId.{DefWithBodyId}
+use Rattle.infer_needs.specs.Words.{DefWithBodyId, ExprId, ExprOrPatId, TypeAliasId, GenericArg, Ty, Same, erased_tells, Term, hole, pair, chain, term, arg_term, term_bool, term_char, term_uint, unit, RawBody, type_args, answers, Asked, System, implements, projects, only, alias_at, staying, Proof, asked_goal, IsSystemOf, Gap, InferenceResult, needs_at, scope_item, IsNeeded, HasGap, HoldsUnknown, HoldsNoHole, IsProved, IsUnproved, IsClash, IsTrueClash, IsTrueGap, GoalsHold, Given, GoalReads, IsAboutAlias, IsFound, AreFound, HasEntry, given as given_in}
 use Rattle.hir_types.specs.declared.ids.DefWithBodyId.TheVariants as def
-use Rattle.hir_types.specs.declared.ids.ExprId.{ExprId}
-use Rattle.hir_types.specs.declared.ids.ExprOrPatId.{ExprOrPatId}
 use Rattle.hir_types.specs.declared.ids.ExprOrPatId.TheVariants as node
-use Rattle.hir_types.specs.declared.ids.TypeAliasId.{TypeAliasId}
-use Rattle.hir_types.specs.declared.ty.GenericArg.{GenericArg}
-use Rattle.hir_types.specs.declared.ty.Ty.{Ty}
 use Rattle.hir_types.specs.declared.ty.Ty.TheVariants as ty
 use Rattle.hir_types.specs.declared.ty.UintTy.TheVariants as uint
-use Rattle.hir_types.specs.Erasure.{Same}
-use Rattle.hir_types.specs.Faithful.{erased_tells}
-use Rattle.hir_types.specs.Terms.{Term, hole, pair, chain, term, arg_term}
-use Rattle.hir_types.specs.TermLaws.{term_bool, term_char, term_uint}
-use Rattle.hir_types.specs.Types.{unit}
-use Rattle.hir_raw.specs.declared.raw.RawBody.{RawBody}
-use Rattle.hir_raw.specs.declared.raw.RawExpr.TheVariants as expr
-use Rattle.hir_raw.specs.declared.raw.RawPath.TheVariants as path
-use Rattle.hir_raw.specs.declared.raw.RawStmt.TheVariants as stmt
-use Rattle.hir_raw.specs.Signatures.{type_args}
-use Rattle.goal_answers.specs.Answers.{answers}
-use Rattle.goal_answers.specs.Goals.{Asked, System, implements, projects, only}
-use Rattle.goal_answers.specs.Reading.{alias_at, staying}
-use Rattle.goal_answers.proofs.One.{answers_sound}
-use Rattle.goal_answers.proofs.Readings.{read_reads, reads_one}
-use Rattle.goal_facts.specs.declared.proof.Proof.{Proof}
-use Rattle.goal_facts.specs.Goals.{asked_goal}
-use Rattle.goal_facts.specs.Systems.{IsSystemOf}
-use Rattle.infer_result.specs.declared.gaps.Gap.{Gap}
+use Rattle.infer_needs.specs.Words.hir_raw.declared.raw.RawExpr.TheVariants as expr
+use Rattle.infer_needs.specs.Words.hir_raw.declared.raw.RawPath.TheVariants as path
+use Rattle.infer_needs.specs.Words.hir_raw.declared.raw.RawStmt.TheVariants as stmt
+use Rattle.infer_needs.proofs.Words.{answers_sound, read_reads, reads_one, e, u8, body_of}
 use Rattle.infer_result.specs.declared.gaps.Gap.TheVariants as gap
-use Rattle.infer_result.specs.declared.result.InferenceResult.{InferenceResult}
-use Rattle.infer_result.specs.Needs.{needs_at, scope_item, IsNeeded, HasGap, HoldsUnknown, HoldsNoHole, IsProved, IsUnproved, IsClash, IsTrueClash, IsTrueGap, GoalsHold}
-use Rattle.infer_result.specs.Places.{Given}
-use Rattle.infer_result.specs.Projections.{GoalReads, IsAboutAlias, IsFound, AreFound, HasEntry}
-use Rattle.infer_result.specs.Typed.{given as given_in}
-use Rattle.infer_result.proofs.Samples.Small.{e, u8, body_of}
 use Rattle.infer_needs.proofs.Samples.Impls.{tr, out, facts, u8_term, bool_term, char_term, implemented, found_as}
 use Rattle.infer_needs.proofs.Samples.Sources.{IsBare, goal_reads_bare, bare_goal_reads, neither, nothing, asks_bool}
 use Rattle.infer_needs.proofs.Samples.Left.{alias, alias_term}

@@ -1,36 +1,16 @@
 -- What goals of `fn both() where bool: Tr, bool: Tr<Out = u8>, bool: Tr<Out = char>` over the facts of `Impls` are answered by: by its clauses
 -- `<bool as Tr>::Out` is `u8`, and it is `char`. `<u8 as Tr>::Out` still reads as `bool`.
 use Rattle.std.proofs.Common.{ℕ, zero, suc, ◌≡◌, inl, inr, List, [], ◌∷◌, map, refl, sym, ap, subst, ◌∙◌, false, true≢false, Some, slice_get}
-use Rattle.hir_types.specs.declared.goal.Goal.{Goal}
+use Rattle.infer_needs.specs.Words.{Goal, FunctionId, GenericDefId, TypeRefId, Ty, Term, leaf, pair, term_bool, term_char, term_uint, RawGoal, type_args, GivesNone, answers, Asked, System, implements, projects, asked_at, only, is_among, Each, Fill, Aliases, ReadsAs, alias_at, Proof, Has, AreDistinct, own_params, type_at, goal_at, preds_or_none, IsStated, asked_goal, filled_goal, IsSame, Holds, AreProofs, fact, IsSystemOf}
 use Rattle.hir_types.specs.declared.goal.Goal.TheVariants as goal
 use Rattle.hir_types.specs.declared.head.Head.TheVariants as head
-use Rattle.hir_types.specs.declared.ids.FunctionId.{FunctionId}
-use Rattle.hir_types.specs.declared.ids.GenericDefId.{GenericDefId}
 use Rattle.hir_types.specs.declared.ids.GenericDefId.TheVariants as generic
-use Rattle.hir_types.specs.declared.ids.TypeRefId.{TypeRefId}
-use Rattle.hir_types.specs.declared.ty.Ty.{Ty}
 use Rattle.hir_types.specs.declared.ty.Ty.TheVariants as ty
 use Rattle.hir_types.specs.declared.ty.UintTy.TheVariants as uint
-use Rattle.hir_types.specs.Terms.{Term, leaf, pair}
-use Rattle.hir_types.specs.TermLaws.{term_bool, term_char, term_uint}
-use Rattle.hir_raw.specs.declared.raw.RawGoal.{RawGoal}
-use Rattle.hir_raw.specs.Signatures.{type_args}
 use Rattle.std.specs.Prelude.{option_map}
-use Rattle.goal_answers.specs.Answers.{GivesNone, answers}
-use Rattle.goal_answers.specs.Goals.{Asked, System, implements, projects, asked_at, only, is_among, Each}
-use Rattle.goal_answers.specs.Reading.{Fill, Aliases, ReadsAs, alias_at}
-use Rattle.goal_answers.proofs.Readings.{read_reads}
-use Rattle.goal_facts.specs.declared.proof.Proof.{Proof}
-use Rattle.goal_facts.specs.declared.proof.ProofSource.TheVariants as source
-use Rattle.goal_facts.specs.Additions.{Has, AreDistinct}
-use Rattle.goal_facts.specs.Arguments.{own_params, type_at, goal_at}
-use Rattle.goal_facts.specs.Environment.{preds_or_none, IsStated, Follows}
-use Rattle.goal_facts.specs.Goals.{asked_goal}
-use Rattle.goal_facts.specs.Proofs.{filled_goal, IsSame, Holds, AreProofs}
-use Rattle.goal_facts.specs.Systems.{fact, IsSystemOf}
-use Rattle.goal_facts.proofs.Adding.{get_mapped}
-use Rattle.goal_facts.proofs.Written.{type_layer, args_are}
-use Rattle.infer_result.proofs.Samples.Small.{u8, w}
+use Rattle.infer_needs.proofs.Words.{read_reads, get_mapped, type_layer, args_are, u8, w}
+use Rattle.infer_needs.specs.Words.goal_facts.declared.proof.ProofSource.TheVariants as source
+use Rattle.infer_needs.specs.Words.goal_facts.Environment.{Follows}
 use Rattle.infer_needs.proofs.Samples.Impls.{tr, out, bound, bool_out, both_preds, facts, u8_term, bool_term, char_term, implemented, found_as, rules_are}
 use Rattle.infer_needs.proofs.Samples.Sources.{IsBare, bare_read, asks, asks_bool, asks_is}
 use Rattle.infer_needs.proofs.Samples.Needed.{sources, are_sources}

@@ -1,29 +1,13 @@
 -- Proofs in the scope of `fn need<T: Tr>(x: T)`, over `Impls`: the clause that it states proves `T: Tr`, and no clause proves `u8: Tr`.
 use Rattle.std.proofs.Common.{ℕ, zero, suc, ◌≡◌, inl, inr, List, [], ◌∷◌, refl, sym, ap, subst, ◌∙◌, true, true≢false, Some, slice_get}
 use Rattle.std.specs.Prelude.{option_map}
-use Rattle.hir_types.specs.declared.goal.Goal.{Goal}
+use Rattle.infer_needs.specs.Words.{Goal, GenericDefId, arg_as_type, Term, node, term, term_param, RawGoal, Fill, Aliases, Asked, Rule, System, implements, asked_at, only, is_among, Proof, Has, own_params, type_at, args_at, goal_at, preds_or_none, IsStated, asked_goal, filled_goal, IsSame, IsClause, IsSource, Holds, AreProofs, fact, IsSystemOf}
 use Rattle.hir_types.specs.declared.head.Head.TheVariants as head
-use Rattle.hir_types.specs.declared.ids.GenericDefId.{GenericDefId}
 use Rattle.hir_types.specs.declared.ids.GenericDefId.TheVariants as generic
 use Rattle.hir_types.specs.declared.ty.Ty.TheVariants as ty
-use Rattle.hir_types.specs.Assigned.{arg_as_type}
-use Rattle.hir_types.specs.Terms.{Term, node, term}
-use Rattle.hir_types.specs.TermLaws.{term_param}
-use Rattle.hir_raw.specs.declared.raw.RawGoal.{RawGoal}
-use Rattle.goal_answers.specs.Reading.{Fill, Aliases}
-use Rattle.goal_answers.specs.Goals.{Asked, Rule, System, implements, asked_at, only, is_among}
-use Rattle.goal_facts.specs.declared.proof.Proof.{Proof}
-use Rattle.goal_facts.specs.declared.proof.ProofSource.TheVariants as source
-use Rattle.goal_facts.specs.Additions.{Has}
-use Rattle.goal_facts.specs.Arguments.{own_params, type_at, args_at, goal_at}
-use Rattle.goal_facts.specs.Environment.{preds_or_none, IsStated, Follows}
-use Rattle.goal_facts.specs.Goals.{asked_goal}
-use Rattle.goal_facts.specs.Proofs.{filled_goal, IsSame, IsClause, IsSource, Holds, AreProofs}
-use Rattle.goal_facts.specs.Systems.{fact, IsSystemOf}
-use Rattle.goal_facts.proofs.Adding.{get_mapped, get_in_map}
-use Rattle.goal_facts.proofs.Written.{type_layer, args_are}
-use Rattle.infer_result.proofs.Samples.Small.{w}
-use Rattle.infer_result.proofs.Samples.Calling.{function, top_arg}
+use Rattle.infer_needs.specs.Words.goal_facts.declared.proof.ProofSource.TheVariants as source
+use Rattle.infer_needs.specs.Words.goal_facts.Environment.{Follows}
+use Rattle.infer_needs.proofs.Words.{get_mapped, get_in_map, type_layer, args_are, w, function, top_arg}
 use Rattle.infer_needs.proofs.Samples.Impls.{tr, facts, bound, u8_term, implemented}
 use Rattle.infer_needs.proofs.Samples.Sources.{same_bare, bare_same, asks, asks_is}
 

@@ -3,22 +3,9 @@
 use Rattle.std.proofs.Common.{ℕ, ◌≡◌, List, [], ◌∷◌, map, refl, sym, ap, subst, ◌∙◌, Some, slice_get}
 use Rattle.hir_types.specs.declared.goal.Goal.TheVariants as goal
 use Rattle.hir_types.specs.declared.head.Head.TheVariants as head
-use Rattle.hir_types.specs.declared.ids.DefWithBodyId.{DefWithBodyId}
-use Rattle.hir_types.specs.declared.ids.ExprOrPatId.{ExprOrPatId}
-use Rattle.hir_types.specs.declared.ty.GenericArg.{GenericArg}
-use Rattle.hir_types.specs.declared.ty.Ty.{Ty}
+use Rattle.infer_needs.specs.Words.{DefWithBodyId, ExprOrPatId, GenericArg, Ty, Term, leaf, pair, chain, node, type_part, term, arg_term, term_bool, term_char, term_hole, arg_term_type, type_args, Asked, projects, only, IsRead, alias_at, staying, asked_goal, InferenceResult, HasGap, HoldsUnknown, HoldsNoHole, IsProved, GoalsHold, Given, IsFound}
 use Rattle.hir_types.specs.declared.ty.Ty.TheVariants as ty
-use Rattle.hir_types.specs.Terms.{Term, leaf, pair, chain, node, type_part, term, arg_term}
-use Rattle.hir_types.specs.TermLaws.{term_bool, term_char, term_hole, arg_term_type}
-use Rattle.hir_raw.specs.Signatures.{type_args}
-use Rattle.goal_answers.specs.Goals.{Asked, projects, only}
-use Rattle.goal_answers.specs.Reading.{IsRead, alias_at, staying}
-use Rattle.goal_facts.specs.Goals.{asked_goal}
 use Rattle.infer_result.specs.declared.gaps.Gap.TheVariants as gap
-use Rattle.infer_result.specs.declared.result.InferenceResult.{InferenceResult}
-use Rattle.infer_result.specs.Needs.{HasGap, HoldsUnknown, HoldsNoHole, IsProved, GoalsHold}
-use Rattle.infer_result.specs.Places.{Given}
-use Rattle.infer_result.specs.Projections.{IsFound}
 use Rattle.infer_needs.proofs.Samples.Impls.{out, u8_term, bool_term, char_term, found_as}
 use Rattle.infer_needs.proofs.Samples.Sources.{IsBare, bare_read, neither, nothing, asks}
 use Rattle.infer_needs.proofs.Samples.Left.{alias, alias_term}

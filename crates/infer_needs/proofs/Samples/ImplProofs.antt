@@ -2,22 +2,11 @@
 -- which it is, and rests on proofs of what this asks for.
 use Rattle.std.proofs.Common.{ℕ, zero, suc, ◌<◌, ◌≤◌, ◌≡◌, List, [], ◌∷◌, length, refl, sym, ap, subst, ◌∙◌, arith, Some, slice_get}
 use Rattle.hir_types.specs.declared.head.Hole.TheVariants as hole_of
-use Rattle.hir_types.specs.declared.ids.ImplId.{ImplId}
-use Rattle.hir_types.specs.declared.ty.Ty.{Ty}
+use Rattle.infer_needs.specs.Words.{ImplId, Ty, Term, apply, term, term_bool, term_uint, RawImpl, type_args, Fill, Aliases, System, asked_at, only, Proof, asked_goal, filled_goal, args_fill, IsSame, IsSource, AreProofsOf, Holds, AreProofs, IsSystemOf}
 use Rattle.hir_types.specs.declared.ty.Ty.TheVariants as ty
 use Rattle.hir_types.specs.declared.ty.UintTy.TheVariants as uint
-use Rattle.hir_types.specs.Terms.{Term, apply, term}
-use Rattle.hir_types.specs.TermLaws.{term_bool, term_uint}
-use Rattle.hir_raw.specs.declared.raw.RawImpl.{RawImpl}
-use Rattle.hir_raw.specs.Signatures.{type_args}
-use Rattle.goal_answers.specs.Reading.{Fill, Aliases}
-use Rattle.goal_answers.specs.Goals.{System, asked_at, only}
-use Rattle.goal_facts.specs.declared.proof.Proof.{Proof}
-use Rattle.goal_facts.specs.declared.proof.ProofSource.TheVariants as source
-use Rattle.goal_facts.specs.Goals.{asked_goal}
-use Rattle.goal_facts.specs.Proofs.{filled_goal, args_fill, IsSame, IsSource, AreProofsOf, Holds, AreProofs}
-use Rattle.goal_facts.specs.Systems.{IsSystemOf}
-use Rattle.infer_result.proofs.Samples.Small.{u8}
+use Rattle.infer_needs.specs.Words.goal_facts.declared.proof.ProofSource.TheVariants as source
+use Rattle.infer_needs.proofs.Words.{u8}
 use Rattle.infer_needs.proofs.Samples.Impls.{facts, own, u8_term, bool_term, w_term, param, implemented, for_u8, for_w, u8_rules, w_rules}
 use Rattle.infer_needs.proofs.Samples.Sources.{same_bare, bare_same, asks, w_of, asks_u8, asks_bool, asks_w, trait_source, is_trait_source, unshadowed, not_sized}
 

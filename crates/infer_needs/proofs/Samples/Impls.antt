@@ -4,51 +4,24 @@
 -- `fn both() where bool: Tr<Out = u8>, bool: Tr<Out = char>`; and what goals of `f` are answered by.
 use Rattle.std.proofs.Common.{ℕ, zero, suc, ◌≡◌, inl, inr, List, [], ◌∷◌, ◌++◌, length, map, append-nil, refl, sym, ap, subst, ◌∙◌, false, Some, None, slice_get}
 use Rattle.std.specs.Prelude.{codes, flat_map}
-use Rattle.hir_types.specs.declared.ids.DefWithBodyId.{DefWithBodyId}
+use Rattle.infer_needs.specs.Words.{DefWithBodyId, FunctionId, GenericDefId, TraitId, TypeAliasId, arg_as_type, Term, hole, pair, node, type_part, term, term_var, RawAdt, RawVariant, RawAlias, RawBody, RawFacts, RawFn, RawGoal, RawImpl, RawParam, RawTrait, RawType, TypeRefId, Asked, Rule, System, implements, projects, only, holes, type_at, args_at, goal_at, IsListed, IsStated, impl_rules, fact, IsSystemOf}
 use Rattle.hir_types.specs.declared.ids.DefWithBodyId.TheVariants as def
-use Rattle.hir_types.specs.declared.ids.FunctionId.{FunctionId}
-use Rattle.hir_types.specs.declared.ids.GenericDefId.{GenericDefId}
 use Rattle.hir_types.specs.declared.ids.GenericDefId.TheVariants as generic
-use Rattle.hir_types.specs.declared.ids.TraitId.{TraitId}
-use Rattle.hir_types.specs.declared.ids.TypeAliasId.{TypeAliasId}
 use Rattle.hir_types.specs.declared.head.Head.TheVariants as head
 use Rattle.hir_types.specs.declared.head.Hole.TheVariants as hole_of
 use Rattle.hir_types.specs.declared.ty.IntegerTy.TheVariants as integer
 use Rattle.hir_types.specs.declared.ty.Ty.TheVariants as ty
 use Rattle.hir_types.specs.declared.ty.UintTy.TheVariants as uint
-use Rattle.hir_types.specs.Assigned.{arg_as_type}
-use Rattle.hir_types.specs.Terms.{Term, hole, pair, node, type_part, term}
-use Rattle.hir_types.specs.TermLaws.{term_var}
-use Rattle.hir_raw.specs.declared.raw.RawAdt.{RawAdt}
-use Rattle.hir_raw.specs.declared.raw.RawAdtKind.TheVariants as kind
-use Rattle.hir_raw.specs.declared.raw.RawVariant.{RawVariant}
-use Rattle.hir_raw.specs.declared.raw.RawAlias.{RawAlias}
-use Rattle.hir_raw.specs.declared.raw.RawArgs.TheVariants as args
-use Rattle.hir_raw.specs.declared.raw.RawBody.{RawBody}
-use Rattle.hir_raw.specs.declared.raw.RawCtor.TheVariants as ctor
-use Rattle.hir_raw.specs.declared.raw.RawExpr.TheVariants as expr
-use Rattle.hir_raw.specs.declared.raw.RawFacts.{RawFacts}
-use Rattle.hir_raw.specs.declared.raw.RawFn.{RawFn}
-use Rattle.hir_raw.specs.declared.raw.RawGoal.{RawGoal}
-use Rattle.hir_raw.specs.declared.raw.RawGoal.TheVariants as goal
-use Rattle.hir_raw.specs.declared.raw.RawImpl.{RawImpl}
-use Rattle.hir_raw.specs.declared.raw.RawPat.TheVariants as pat
-use Rattle.hir_raw.specs.declared.raw.RawParam.{RawParam}
-use Rattle.hir_raw.specs.declared.raw.RawParam.TheVariants as parameter
-use Rattle.hir_raw.specs.declared.raw.RawTrait.{RawTrait}
-use Rattle.hir_raw.specs.declared.raw.RawType.{RawType}
-use Rattle.hir_raw.specs.declared.raw.RawType.TheVariants as type
-use Rattle.hir_types.specs.declared.ids.TypeRefId.{TypeRefId}
-use Rattle.goal_answers.specs.Goals.{Asked, Rule, System, implements, projects, only}
-use Rattle.goal_facts.specs.Arguments.{holes, type_at, args_at, goal_at}
-use Rattle.goal_facts.specs.Bounds.{IsListed}
-use Rattle.goal_facts.specs.Environment.{IsStated, Follows}
-use Rattle.goal_facts.specs.Impls.{impl_rules}
-use Rattle.goal_facts.specs.Systems.{fact, IsSystemOf}
-use Rattle.goal_facts.proofs.Written.{type_layer, args_are}
-use Rattle.infer_result.proofs.Samples.Small.{facts_with, function_of, body_with, p, b, w, plain, one_u8}
-use Rattle.infer_result.proofs.Samples.Calling.{body, top_arg}
-use Rattle.infer_result.proofs.Samples.Constructors.{v, adt, adt_of, variant_of}
+use Rattle.infer_needs.specs.Words.hir_raw.declared.raw.RawAdtKind.TheVariants as kind
+use Rattle.infer_needs.specs.Words.hir_raw.declared.raw.RawArgs.TheVariants as args
+use Rattle.infer_needs.specs.Words.hir_raw.declared.raw.RawCtor.TheVariants as ctor
+use Rattle.infer_needs.specs.Words.hir_raw.declared.raw.RawExpr.TheVariants as expr
+use Rattle.infer_needs.specs.Words.hir_raw.declared.raw.RawGoal.TheVariants as goal
+use Rattle.infer_needs.specs.Words.hir_raw.declared.raw.RawPat.TheVariants as pat
+use Rattle.infer_needs.specs.Words.hir_raw.declared.raw.RawParam.TheVariants as parameter
+use Rattle.infer_needs.specs.Words.hir_raw.declared.raw.RawType.TheVariants as type
+use Rattle.infer_needs.specs.Words.goal_facts.Environment.{Follows}
+use Rattle.infer_needs.proofs.Words.{type_layer, args_are, facts_with, function_of, body_with, p, b, w, plain, one_u8, body, top_arg, v, adt, adt_of, variant_of}
 
 abbrev pub tr : TraitId
 tr = record { 0 = 0 }

@@ -1,31 +1,12 @@
 -- An associated type that stays is of course itself. No table lists this, or says it of one that was found to be another type, and none has to:
 -- here of `<u8 as Tr>::Out`.
 use Rattle.std.proofs.Common.{ℕ, zero, suc, ◌≡◌, inl, inr, List, [], ◌∷◌, refl, sym, ap, subst, ◌∙◌, Some, slice_get}
-use Rattle.hir_types.specs.declared.ids.DefWithBodyId.{DefWithBodyId}
-use Rattle.hir_types.specs.declared.ids.ExprOrPatId.{ExprOrPatId}
+use Rattle.infer_needs.specs.Words.{DefWithBodyId, ExprOrPatId, TypeAliasId, GenericArg, Ty, Term, term, term_associated_type, type_args, Fill, Aliases, staying, Asked, implements, projects, asked_at, only, answers, Proof, asked_goal, filled_goal, IsSource, Holds, AreProofs, Gap, InferenceResult, Given, GoalReads, IsAboutAlias, stays_at, HasGap, IsProved, GoalsHold}
 use Rattle.hir_types.specs.declared.ids.ExprOrPatId.TheVariants as node
-use Rattle.hir_types.specs.declared.ids.TypeAliasId.{TypeAliasId}
-use Rattle.hir_types.specs.declared.ty.GenericArg.{GenericArg}
-use Rattle.hir_types.specs.declared.ty.Ty.{Ty}
 use Rattle.hir_types.specs.declared.ty.Ty.TheVariants as ty
-use Rattle.hir_types.specs.Terms.{Term, term}
-use Rattle.hir_types.specs.TermLaws.{term_associated_type}
-use Rattle.hir_raw.specs.Signatures.{type_args}
-use Rattle.goal_answers.specs.Reading.{Fill, Aliases, staying}
-use Rattle.goal_answers.specs.Goals.{Asked, implements, projects, asked_at, only}
-use Rattle.goal_answers.specs.Answers.{answers}
-use Rattle.goal_answers.proofs.Readings.{read_reads}
-use Rattle.goal_facts.specs.declared.proof.Proof.{Proof}
-use Rattle.goal_facts.specs.declared.proof.ProofSource.TheVariants as source
-use Rattle.goal_facts.specs.Goals.{asked_goal}
-use Rattle.goal_facts.specs.Proofs.{filled_goal, IsSource, Holds, AreProofs}
-use Rattle.infer_result.specs.declared.gaps.Gap.{Gap}
+use Rattle.infer_needs.proofs.Words.{read_reads, u8}
+use Rattle.infer_needs.specs.Words.goal_facts.declared.proof.ProofSource.TheVariants as source
 use Rattle.infer_result.specs.declared.gaps.Gap.TheVariants as gap
-use Rattle.infer_result.specs.declared.result.InferenceResult.{InferenceResult}
-use Rattle.infer_result.specs.Places.{Given}
-use Rattle.infer_result.specs.Projections.{GoalReads, IsAboutAlias, stays_at}
-use Rattle.infer_result.specs.Needs.{HasGap, IsProved, GoalsHold}
-use Rattle.infer_result.proofs.Samples.Small.{u8}
 use Rattle.infer_needs.proofs.Samples.Impls.{out, tr, facts, own_body, u8_term, found_as}
 use Rattle.infer_needs.proofs.Samples.Sources.{goal_reads_bare, asks_out, asks_out_is, asks_u8, not_sized}
 use Rattle.infer_needs.proofs.Samples.ImplProofs.{by_impl, u8_holds}

@@ -1,28 +1,12 @@
 -- What is left of associated types in the types of tables, over the facts of `Impls`: `<u8 as Tr>::Out` may be left where the table says what it is.
 use Rattle.std.proofs.Common.{ℕ, suc, ◌≡◌, inl, inr, List, [], ◌∷◌, map, refl, sym, ap, ap₂, subst, ◌∙◌, true≢false, Some}
 use Rattle.hir_types.specs.declared.head.Head.TheVariants as head
-use Rattle.hir_types.specs.declared.ids.TypeAliasId.{TypeAliasId}
-use Rattle.hir_types.specs.declared.ty.GenericArg.{GenericArg}
-use Rattle.hir_types.specs.declared.ty.Ty.{Ty}
+use Rattle.infer_needs.specs.Words.{TypeAliasId, GenericArg, Ty, Term, hole, leaf, pair, chain, type_part, term, arg_term, term_bool, term_uint, term_projection, term_associated_type, arg_term_type, RawLiteral, type_args, Fill, alias_at, staying, Aliases, ReadsAs, MayRead, Asked, Rule, System, implements, projects, only, Each, OneOf, Verdicts, Gives, GivesNone, answers, asked_goal, TypeReads, IsSystemOf, InferenceResult, HasEntry, IsPartOf, stays_at, NoneIsLeft, StaysOrIsListed, HoldsUnknown, HasNoneLeft, At}
 use Rattle.hir_types.specs.declared.ty.Ty.TheVariants as ty
 use Rattle.hir_types.specs.declared.ty.UintTy.TheVariants as uint
-use Rattle.hir_types.specs.Terms.{Term, hole, leaf, pair, chain, type_part, term, arg_term}
-use Rattle.hir_types.specs.TermLaws.{term_bool, term_uint, term_projection, term_associated_type, arg_term_type}
-use Rattle.hir_raw.specs.declared.raw.RawLiteral.{RawLiteral}
-use Rattle.hir_raw.specs.Signatures.{type_args}
-use Rattle.goal_answers.specs.Reading.{Fill, Role, alias_at, staying, Aliases, ReadsAs, MayRead}
-use Rattle.goal_answers.specs.Goals.{Asked, Rule, System, implements, projects, only, Each, OneOf, Verdicts}
-use Rattle.goal_answers.specs.Answers.{Gives, GivesNone, answers}
-use Rattle.goal_answers.proofs.Readings.{MayReadBy, role_read, read_reads}
-use Rattle.goal_facts.specs.Goals.{asked_goal}
-use Rattle.goal_facts.specs.Reading.{TypeReads}
-use Rattle.goal_facts.specs.Systems.{IsSystemOf}
+use Rattle.infer_needs.specs.Words.goal_answers.Reading.{Role}
+use Rattle.infer_needs.proofs.Words.{MayReadBy, role_read, read_reads, u8, each_entry, each_found}
 use Rattle.hir_types.specs.declared.goal.Goal.TheVariants as goal
-use Rattle.infer_result.specs.declared.result.InferenceResult.{InferenceResult}
-use Rattle.infer_result.specs.Projections.{HasEntry, IsPartOf, stays_at, NoneIsLeft, StaysOrIsListed}
-use Rattle.infer_result.specs.Needs.{HoldsUnknown, HasNoneLeft}
-use Rattle.infer_result.specs.Table.{At}
-use Rattle.infer_result.proofs.Samples.Small.{u8, each_entry, each_found}
 use Rattle.infer_needs.proofs.ReadsYes.{reads_one}
 use Rattle.infer_needs.proofs.Samples.Impls.{tr, out, facts, own, own_body, u8_term, bool_term, char_term, w_term, param, implemented, found_as, all_said, no_clauses, rules_are}
 use Rattle.infer_needs.proofs.Samples.Sources.{IsBare, bare_read}

@@ -3,32 +3,10 @@ use Rattle.std.proofs.Common.{ℕ, zero, suc, ◌≡◌, List, [], ◌∷◌, ma
 use Rattle.std.specs.Prelude.{flat_map}
 use Rattle.std.specs.Option.{option_and_then}
 use Rattle.hir_types.specs.declared.ids.CallableDefId.TheVariants as callable
-use Rattle.hir_types.specs.declared.ids.ExprId.{ExprId}
-use Rattle.hir_types.specs.declared.ids.ExprOrPatId.{ExprOrPatId}
+use Rattle.infer_needs.specs.Words.{ExprId, ExprOrPatId, Ty, Ty-F, out-Ty, out-roll-Ty, arg_as_type, Term, term, unit, RawLiteral, type_args, Asked, System, implements, projects, only, Proof, type_at, goal_at, IsListed, IsStated, IsClosure, impl_rules, last_field_of, IsSystemOf, Gap, InferenceResult, Given, GoalReads, IsAboutAlias, item_args, needs_at, IsNeeded, given as given_in}
 use Rattle.hir_types.specs.declared.ids.ExprOrPatId.TheVariants as node
-use Rattle.hir_types.specs.declared.ty.Ty.{Ty, Ty-F, out-Ty, out-roll-Ty}
 use Rattle.hir_types.specs.declared.ty.Ty.TheVariants as ty
-use Rattle.hir_types.specs.Assigned.{arg_as_type}
-use Rattle.hir_types.specs.Terms.{Term, term}
-use Rattle.hir_types.specs.Types.{unit}
-use Rattle.hir_raw.specs.declared.raw.RawLiteral.{RawLiteral}
-use Rattle.hir_raw.specs.Signatures.{type_args}
-use Rattle.goal_answers.specs.Goals.{Asked, System, implements, projects, only}
-use Rattle.goal_facts.specs.declared.proof.Proof.{Proof}
-use Rattle.goal_facts.specs.Arguments.{type_at, goal_at}
-use Rattle.goal_facts.specs.Bounds.{IsListed}
-use Rattle.goal_facts.specs.Environment.{IsStated, IsClosure}
-use Rattle.goal_facts.specs.Impls.{impl_rules}
-use Rattle.goal_facts.specs.Systems.{last_field_of, IsSystemOf}
-use Rattle.goal_facts.proofs.Written.{type_layer, args_are}
-use Rattle.infer_result.specs.declared.gaps.Gap.{Gap}
-use Rattle.infer_result.specs.declared.result.InferenceResult.{InferenceResult}
-use Rattle.infer_result.specs.Places.{Given}
-use Rattle.infer_result.specs.Projections.{GoalReads, IsAboutAlias}
-use Rattle.infer_result.specs.Needs.{item_args, needs_at, IsNeeded}
-use Rattle.infer_result.specs.Typed.{given as given_in}
-use Rattle.infer_result.proofs.Samples.Small.{e, w}
-use Rattle.infer_result.proofs.Samples.Calling.{function, body, item, top_arg}
+use Rattle.infer_needs.proofs.Words.{type_layer, args_are, e, w, function, body, item, top_arg}
 use Rattle.infer_needs.proofs.Samples.Impls.{tr, bound, need, facts, own, own_body, implemented, nothing_follows, nothing_stated, nothing_listed}
 
 abbrev pub given : RawLiteral → Given

@@ -3,25 +3,12 @@
 use Rattle.std.proofs.Common.{ℕ, zero, suc, ◌≡◌, inl, inr, [], ◌∷◌, sym, ap, subst, ◌∙◌, true≢false, Some, slice_get}
 use Rattle.hir_types.specs.declared.head.Head.TheVariants as head
 use Rattle.hir_types.specs.declared.head.Hole.TheVariants as hole_of
-use Rattle.hir_types.specs.declared.ids.ExprOrPatId.{ExprOrPatId}
-use Rattle.hir_types.specs.declared.ty.Ty.{Ty}
+use Rattle.infer_needs.specs.Words.{ExprOrPatId, Ty, Term, hole, leaf, pair, node, type_part, apply, term, term_error, term_tuple, RawLiteral, Fill, IsFilling, IsRead, Aliases, Reads, Asked, System, Verdicts, implements, projects, only, asked_at, IsKnown, Each, IsApart, RuleIsRefuted, HasNoSource, answers, asked_goal, InferenceResult, opened_goal, CannotHold, MayHold, HoldsUnknown, HoldsNoHole, IsTrueUnproved}
 use Rattle.hir_types.specs.declared.ty.Ty.TheVariants as ty
 use Rattle.hir_types.specs.declared.ty.UintTy.TheVariants as uint
-use Rattle.hir_types.specs.Terms.{Term, hole, leaf, pair, node, type_part, apply, term}
-use Rattle.hir_types.specs.TermLaws.{term_error, term_tuple}
-use Rattle.hir_raw.specs.declared.raw.RawLiteral.{RawLiteral}
-use Rattle.hir_raw.specs.declared.raw.RawLiteral.TheVariants as literal
-use Rattle.goal_answers.specs.Reading.{Fill, IsFilling, IsRead, Aliases, Reads}
-use Rattle.goal_answers.specs.Goals.{Asked, System, Verdicts, implements, projects, only, asked_at, IsKnown, Each}
-use Rattle.goal_answers.specs.Answers.{IsApart, RuleIsRefuted, HasNoSource, answers}
-use Rattle.goal_answers.proofs.Filled.{decided_answers_stay}
-use Rattle.goal_answers.proofs.One.{answers_are_one}
-use Rattle.goal_answers.proofs.Readings.{read_reads}
-use Rattle.goal_facts.specs.Goals.{asked_goal}
+use Rattle.infer_needs.specs.Words.hir_raw.declared.raw.RawLiteral.TheVariants as literal
+use Rattle.infer_needs.proofs.Words.{decided_answers_stay, answers_are_one, read_reads}
 use Rattle.infer_result.specs.declared.gaps.Gap.TheVariants as gap
-use Rattle.infer_result.specs.declared.result.InferenceResult.{InferenceResult}
-use Rattle.infer_result.specs.CannotHold.{opened_goal, CannotHold, MayHold}
-use Rattle.infer_result.specs.Needs.{HoldsUnknown, HoldsNoHole, IsTrueUnproved}
 use Rattle.infer_needs.proofs.Samples.Impls.{tr, out, u8_term, bool_term, w_term, param, implemented, rules_are}
 use Rattle.infer_needs.proofs.Samples.Sources.{asks, asks_is}
 use Rattle.infer_needs.proofs.Samples.Needed.{given, table_of, path_node, needs_are, sources, are_sources}

@@ -1,14 +1,7 @@
 -- Proofs by a source that is none, over `Impls`: by a clause where the item states nothing, and of `u8: Tr` as if it were built in.
 use Rattle.std.proofs.Common.{◌≡◌, ℕ, inl, inr, List, [], sym, ap, subst, true, true≢false, Some, slice_get}
-use Rattle.hir_types.specs.declared.goal.Goal.{Goal}
-use Rattle.goal_answers.specs.Reading.{Fill, Aliases}
-use Rattle.goal_answers.specs.Goals.{Asked, System, implements, asked_at, is_among}
-use Rattle.goal_facts.specs.declared.proof.Proof.{Proof}
-use Rattle.goal_facts.specs.declared.proof.ProofSource.TheVariants as source
-use Rattle.goal_facts.specs.Bounds.{IsListed}
-use Rattle.goal_facts.specs.Goals.{asked_goal}
-use Rattle.goal_facts.specs.Proofs.{filled_goal, IsSource, AreProofs}
-use Rattle.goal_facts.specs.Systems.{IsSystemOf}
+use Rattle.infer_needs.specs.Words.{Goal, Fill, Aliases, Asked, System, implements, asked_at, is_among, Proof, IsListed, asked_goal, filled_goal, IsSource, AreProofs, IsSystemOf}
+use Rattle.infer_needs.specs.Words.goal_facts.declared.proof.ProofSource.TheVariants as source
 use Rattle.infer_needs.proofs.Samples.Impls.{tr, facts, own, u8_term, implemented, nothing_follows, nothing_listed, no_clauses}
 
 module _ (s : System) (of : IsSystemOf facts own s) (A : Aliases) (p : Fill) (ps : List Proof) (n : ℕ) (x : Proof) (is : slice_get ps n ≡ Some x) (h : AreProofs facts s A p ps) where

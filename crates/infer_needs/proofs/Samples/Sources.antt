@@ -1,28 +1,12 @@
 -- Which goals the impls of `Impls` are sources of, whatever aliases read as and whatever stands for holes.
 use Rattle.std.proofs.Common.{ℕ, zero, suc, ◌≡◌, ◌⊎◌, inl, inr, List, [], ◌∷◌, length, map, refl, sym, ap, ap₂, subst, ◌∙◌, true, false, true≢false, Some, slice_get}
-use Rattle.hir_types.specs.declared.goal.Goal.{Goal}
+use Rattle.infer_needs.specs.Words.{Goal, ImplId, GenericArg, Ty, Term, hole, leaf, pair, type_part, term, term_bool, term_uint, term_adt_types, arg_term_type, RawImpl, type_args, Fill, IsRead, Aliases, Reads, Asked, Rule, System, implements, projects, asked_at, is_among, Each, Shadows, answers, asked_goal, impl_rules, args_fill, IsSame, IsUnshadowed, IsImplAt, MayHaveSource, IsSystemOf, GoalReads}
 use Rattle.hir_types.specs.declared.goal.Goal.TheVariants as goal
 use Rattle.hir_types.specs.declared.head.Head.TheVariants as head
-use Rattle.hir_types.specs.declared.ids.ImplId.{ImplId}
-use Rattle.hir_types.specs.declared.ty.GenericArg.{GenericArg}
-use Rattle.hir_types.specs.declared.ty.Ty.{Ty}
 use Rattle.hir_types.specs.declared.ty.Ty.TheVariants as ty
 use Rattle.hir_types.specs.declared.ty.UintTy.TheVariants as uint
-use Rattle.hir_types.specs.Terms.{Term, hole, leaf, pair, type_part, term}
-use Rattle.hir_types.specs.TermLaws.{term_bool, term_uint, term_adt_types, arg_term_type}
-use Rattle.hir_raw.specs.declared.raw.RawImpl.{RawImpl}
-use Rattle.hir_raw.specs.Signatures.{type_args}
-use Rattle.goal_answers.specs.Reading.{Fill, Role, IsRead, Aliases, Reads}
-use Rattle.goal_answers.specs.Goals.{Asked, Rule, System, implements, projects, asked_at, is_among, Each}
-use Rattle.goal_answers.specs.Answers.{Shadows, answers}
-use Rattle.goal_answers.proofs.Readings.{ReadsBy, role_read, read_reads}
-use Rattle.goal_facts.specs.Goals.{asked_goal}
-use Rattle.goal_facts.specs.Impls.{impl_rules}
-use Rattle.goal_facts.specs.Proofs.{args_fill, IsSame, IsUnshadowed, IsImplAt, MayHaveSource}
-use Rattle.goal_facts.specs.Systems.{IsSystemOf}
-use Rattle.infer_result.specs.Projections.{GoalReads}
-use Rattle.infer_result.proofs.Samples.Small.{u8}
-use Rattle.infer_result.proofs.Samples.Constructors.{adt}
+use Rattle.infer_needs.specs.Words.goal_answers.Reading.{Role}
+use Rattle.infer_needs.proofs.Words.{ReadsBy, role_read, read_reads, u8, adt}
 use Rattle.infer_needs.proofs.Samples.Impls.{tr, out, facts, own, u8_term, bool_term, w_term, implemented, found_as, said, no_clauses}
 
 -- ---- terms that read as themselves alone

@@ -1,24 +1,11 @@
 -- Tables of `fn f() { need(1u8) }` over the facts of `Impls` in which goals hold: the proof of `u8: Tr` is listed, that `<u8 as Tr>::Out` is
 -- `bool` may be, and nothing is complained of.
 use Rattle.std.proofs.Common.{ℕ, zero, suc, ◌≡◌, inl, List, [], ◌∷◌, map, refl, sym, ap, subst, ◌∙◌, Some, slice_get}
-use Rattle.hir_types.specs.declared.ids.ExprOrPatId.{ExprOrPatId}
+use Rattle.infer_needs.specs.Words.{ExprOrPatId, Ty, Term, chain, arg_term, term_bool, term_uint, type_args, Fill, IsRead, Aliases, staying, Asked, only, answers, Proof, Holds, AreProofs, Gap, InferenceResult, IsAboutAlias, IsFound, AreFound, HasGap, HoldsUnknown, HoldsNoHole, GoalsHold}
 use Rattle.hir_types.specs.declared.ids.ExprOrPatId.TheVariants as node
-use Rattle.hir_types.specs.declared.ty.Ty.{Ty}
 use Rattle.hir_types.specs.declared.ty.Ty.TheVariants as ty
 use Rattle.hir_types.specs.declared.ty.UintTy.TheVariants as uint
-use Rattle.hir_types.specs.Terms.{Term, chain, arg_term}
-use Rattle.hir_types.specs.TermLaws.{term_bool, term_uint}
-use Rattle.hir_raw.specs.Signatures.{type_args}
-use Rattle.goal_answers.specs.Reading.{Fill, IsRead, Aliases, staying}
-use Rattle.goal_answers.specs.Goals.{Asked, only}
-use Rattle.goal_answers.specs.Answers.{answers}
-use Rattle.goal_facts.specs.declared.proof.Proof.{Proof}
-use Rattle.goal_facts.specs.Proofs.{Holds, AreProofs}
-use Rattle.infer_result.specs.declared.gaps.Gap.{Gap}
-use Rattle.infer_result.specs.declared.result.InferenceResult.{InferenceResult}
-use Rattle.infer_result.specs.Projections.{IsAboutAlias, IsFound, AreFound}
-use Rattle.infer_result.specs.Needs.{HasGap, HoldsUnknown, HoldsNoHole, GoalsHold}
-use Rattle.infer_result.proofs.Samples.Small.{u8, one_u8}
+use Rattle.infer_needs.proofs.Words.{u8, one_u8}
 use Rattle.infer_needs.proofs.Samples.Impls.{out, facts, own_body, u8_term, bool_term, char_term, found_as}
 use Rattle.infer_needs.proofs.Samples.Sources.{IsBare, bare_read, neither, nothing, asks_u8}
 use Rattle.infer_needs.proofs.Samples.ImplProofs.{by_impl, u8_holds}

@@ -2,39 +2,14 @@
 -- said where it is not what stands there.
 use Rattle.std.proofs.Common.{ℕ, zero, suc, ◌≡◌, ◌⊎◌, inl, inr, true, List, [], ◌∷◌, ◌++◌, map, refl, sym, ap, subst, ◌∙◌, Some, None, slice_get}
 use Rattle.hir_types.specs.declared.ids.CallableDefId.TheVariants as callable
-use Rattle.hir_types.specs.declared.ids.ExprId.{ExprId}
-use Rattle.hir_types.specs.declared.ids.ExprOrPatId.{ExprOrPatId}
+use Rattle.infer_needs.specs.Words.{ExprId, ExprOrPatId, FunctionId, GenericArg, Ty, Ty-F, out-Ty, out-roll-Ty, arg_as_type, Term, hole, pair, term, term_bool, term_char, term_uint, unit, RawBody, RawLiteral, type_args, Asked, implements, projects, only, answers, Proof, type_at, goal_at, Gap, InferenceResult, alias_goal, Given, GoalReads, IsAboutAlias, HasEntry, item_args, needed_goals, needs_at, IsNeeded, HasGap, IsProved, GoalsHold, given as given_in}
 use Rattle.hir_types.specs.declared.ids.ExprOrPatId.TheVariants as node
-use Rattle.hir_types.specs.declared.ids.FunctionId.{FunctionId}
-use Rattle.hir_types.specs.declared.ty.GenericArg.{GenericArg}
-use Rattle.hir_types.specs.declared.ty.Ty.{Ty, Ty-F, out-Ty, out-roll-Ty}
 use Rattle.hir_types.specs.declared.ty.Ty.TheVariants as ty
 use Rattle.hir_types.specs.declared.ty.UintTy.TheVariants as uint
-use Rattle.hir_types.specs.Assigned.{arg_as_type}
-use Rattle.hir_types.specs.Terms.{Term, hole, pair, term}
-use Rattle.hir_types.specs.TermLaws.{term_bool, term_char, term_uint}
-use Rattle.hir_types.specs.Types.{unit}
-use Rattle.hir_raw.specs.declared.raw.RawBody.{RawBody}
-use Rattle.hir_raw.specs.declared.raw.RawExpr.TheVariants as expr
-use Rattle.hir_raw.specs.declared.raw.RawLiteral.{RawLiteral}
-use Rattle.hir_raw.specs.declared.raw.RawLiteral.TheVariants as literal
-use Rattle.hir_raw.specs.declared.raw.RawPath.TheVariants as path
-use Rattle.hir_raw.specs.Signatures.{type_args}
-use Rattle.goal_answers.specs.Goals.{Asked, implements, projects, only}
-use Rattle.goal_answers.specs.Answers.{answers}
-use Rattle.goal_answers.proofs.Readings.{hole_filling}
-use Rattle.goal_facts.specs.declared.proof.Proof.{Proof}
-use Rattle.goal_facts.specs.Arguments.{type_at, goal_at}
-use Rattle.goal_facts.proofs.Written.{type_layer, args_are}
-use Rattle.infer_result.specs.declared.gaps.Gap.{Gap}
-use Rattle.infer_result.specs.declared.result.InferenceResult.{InferenceResult}
-use Rattle.infer_result.specs.AliasNeeds.{alias_goal}
-use Rattle.infer_result.specs.Places.{Given}
-use Rattle.infer_result.specs.Projections.{GoalReads, IsAboutAlias, HasEntry}
-use Rattle.infer_result.specs.Needs.{item_args, needed_goals, needs_at, IsNeeded, HasGap, IsProved, GoalsHold}
-use Rattle.infer_result.specs.Typed.{given as given_in}
-use Rattle.infer_result.proofs.Samples.Small.{e, w, u8, one_u8, body_of}
-use Rattle.infer_result.proofs.Samples.Calling.{top_arg}
+use Rattle.infer_needs.specs.Words.hir_raw.declared.raw.RawExpr.TheVariants as expr
+use Rattle.infer_needs.specs.Words.hir_raw.declared.raw.RawLiteral.TheVariants as literal
+use Rattle.infer_needs.specs.Words.hir_raw.declared.raw.RawPath.TheVariants as path
+use Rattle.infer_needs.proofs.Words.{hole_filling, type_layer, args_are, e, w, u8, one_u8, body_of, top_arg}
 use Rattle.infer_needs.proofs.Samples.Impls.{tr, out, bound, take, facts, own_body, u8_term, bool_term, char_term, implemented, found_as}
 use Rattle.infer_needs.proofs.Samples.Sources.{goal_reads_bare, bare_goal_reads, asks_u8}
 use Rattle.infer_needs.proofs.Samples.ImplProofs.{by_impl}

@@ -1,25 +1,12 @@
 -- The table of `fn f() { need('a') }` over the facts of `Impls` that says at the path that `char: Tr` has no proof: that is so, and goals hold.
 use Rattle.std.proofs.Common.{ℕ, zero, suc, ◌≡◌, inl, inr, List, [], ◌∷◌, refl, sym, ap, subst, ◌∙◌, true≢false, Some, slice_get}
-use Rattle.hir_types.specs.declared.ids.ExprId.{ExprId}
-use Rattle.hir_types.specs.declared.ids.ExprOrPatId.{ExprOrPatId}
+use Rattle.infer_needs.specs.Words.{ExprId, ExprOrPatId, Term, hole, pair, term_char, RawLiteral, Aliases, Reads, Asked, Rule, implements, projects, only, SomeOf, answers, HasProof, asked_goal, Gap, InferenceResult, HasGap, HoldsUnknown, HoldsNoHole, IsUnproved, IsTrueUnproved, IsTrueGap, GoalsHold, NeedsHold}
 use Rattle.hir_types.specs.declared.ids.ExprOrPatId.TheVariants as node
 use Rattle.hir_types.specs.declared.ty.Ty.TheVariants as ty
-use Rattle.hir_types.specs.Terms.{Term, hole, pair}
-use Rattle.hir_types.specs.TermLaws.{term_char}
-use Rattle.hir_raw.specs.declared.raw.RawLiteral.{RawLiteral}
-use Rattle.hir_raw.specs.declared.raw.RawLiteral.TheVariants as literal
-use Rattle.goal_answers.specs.Reading.{Aliases, Reads}
-use Rattle.goal_answers.specs.Goals.{Asked, Rule, implements, projects, only, SomeOf}
-use Rattle.goal_answers.specs.Answers.{answers}
-use Rattle.goal_answers.specs.Proofs.{IsSource, HasSource, HasProof}
-use Rattle.goal_answers.proofs.Readings.{hole_filling}
-use Rattle.goal_answers.proofs.Proved.{yes_has_proofs}
-use Rattle.goal_facts.specs.Goals.{asked_goal}
-use Rattle.infer_result.specs.declared.gaps.Gap.{Gap}
+use Rattle.infer_needs.specs.Words.hir_raw.declared.raw.RawLiteral.TheVariants as literal
+use Rattle.infer_needs.specs.Words.goal_answers.Proofs.{IsSource, HasSource}
+use Rattle.infer_needs.proofs.Words.{hole_filling, yes_has_proofs, e}
 use Rattle.infer_result.specs.declared.gaps.Gap.TheVariants as gap
-use Rattle.infer_result.specs.declared.result.InferenceResult.{InferenceResult}
-use Rattle.infer_result.specs.Needs.{HasGap, HoldsUnknown, HoldsNoHole, IsUnproved, IsTrueUnproved, IsTrueGap, GoalsHold, NeedsHold}
-use Rattle.infer_result.proofs.Samples.Small.{e}
 use Rattle.infer_needs.proofs.Samples.Impls.{tr, out, own_body, u8_term, bool_term, char_term, w_term, param, implemented, found_as, all_said, rules_are}
 use Rattle.infer_needs.proofs.Samples.Sources.{reads_bare, neither, nothing, asks, asks_is}
 use Rattle.infer_needs.proofs.Samples.Needed.{given, table_of, path_node, needs_are, needed, none_asked, sources, are_sources}

@@ -1,16 +1,8 @@
 -- `{unknown}` at the literal of `fn f() { need(1u8) }`, as where each node is `{unknown}`: no rule admits it.
 use Rattle.std.proofs.Common.{◌≡◌, [], ◌∷◌, refl, sym, subst, ◌∙◌, arith, Some}
-use Rattle.hir_types.specs.declared.ty.Ty.{Ty}
+use Rattle.infer_needs.specs.Words.{Ty, RawBody, InferenceResult, IsDerivation, HasTy, ObeysOrMismatch, ObeysExpression, given as given_in, IsTyped, of_literal}
 use Rattle.hir_types.specs.declared.ty.Ty.TheVariants as ty
-use Rattle.hir_raw.specs.declared.raw.RawBody.{RawBody}
-use Rattle.infer_result.specs.declared.result.InferenceResult.{InferenceResult}
-use Rattle.infer_result.specs.Derivation.{IsDerivation}
-use Rattle.infer_result.specs.Table.{HasTy}
-use Rattle.infer_result.specs.Rules.{ObeysOrMismatch, ObeysExpression}
-use Rattle.infer_result.specs.Typed.{given as given_in, IsTyped}
-use Rattle.infer_result.specs.Upward.{of_literal}
-use Rattle.infer_result.proofs.Samples.Small.{e, u8, one_u8, only, u8_is_no_error}
-use Rattle.infer_result.proofs.Samples.Calling.{body}
+use Rattle.infer_needs.proofs.Words.{e, u8, one_u8, only, u8_is_no_error, body}
 use Rattle.infer_needs.proofs.Samples.Impls.{facts, own_body}
 use Rattle.infer_needs.proofs.Samples.Needed.{given, table_of}
 

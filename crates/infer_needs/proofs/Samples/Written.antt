@@ -2,42 +2,16 @@
 -- in the type of a `let`, and in what a path needs, and what it is may be `{unknown}` there. Each time a table is refused that doesn't say that it is `bool`, and one that does is taken.
 use Rattle.std.proofs.Common.{ℕ, zero, suc, ◌≡◌, inl, inr, List, [], ◌∷◌, refl, sym, ap, subst, ◌∙◌, Option, Some, None, slice_get}
 use Rattle.hir_types.specs.declared.head.Head.TheVariants as head
-use Rattle.hir_types.specs.declared.ids.DefWithBodyId.{DefWithBodyId}
+use Rattle.infer_needs.specs.Words.{DefWithBodyId, ExprOrPatId, FunctionId, TypeAliasId, Ty, Term, hole, leaf, pair, term, term_projection, term_hole, unit, RawBody, RawLiteral, type_args, filled_within, lowered, answers, Asked, System, implements, projects, only, IsRead, Aliases, ReadsAs, alias_at, Proof, IsStated, IsSystemOf, Gap, InferenceResult, IsNeeded, needs_at, pat_needs_at, HoldsPlaceholder, Given, HasEntry, IsPartOf, given as given_in, args_term, WrittenAreListed, AboutIsListed, AllWrittenAreListed}
 use Rattle.hir_types.specs.declared.ids.DefWithBodyId.TheVariants as def
-use Rattle.hir_types.specs.declared.ids.ExprOrPatId.{ExprOrPatId}
 use Rattle.hir_types.specs.declared.ids.ExprOrPatId.TheVariants as node
-use Rattle.hir_types.specs.declared.ids.FunctionId.{FunctionId}
 use Rattle.hir_types.specs.declared.ids.GenericDefId.TheVariants as generic
-use Rattle.hir_types.specs.declared.ids.TypeAliasId.{TypeAliasId}
-use Rattle.hir_types.specs.declared.ty.Ty.{Ty}
 use Rattle.hir_types.specs.declared.ty.Ty.TheVariants as ty
-use Rattle.hir_types.specs.Terms.{Term, hole, leaf, pair, term}
-use Rattle.hir_types.specs.TermLaws.{term_projection, term_hole}
-use Rattle.hir_types.specs.Types.{unit}
-use Rattle.hir_raw.specs.declared.raw.RawBody.{RawBody}
-use Rattle.hir_raw.specs.declared.raw.RawExpr.TheVariants as expr
-use Rattle.hir_raw.specs.declared.raw.RawLiteral.{RawLiteral}
-use Rattle.hir_raw.specs.declared.raw.RawPat.TheVariants as pat
-use Rattle.hir_raw.specs.declared.raw.RawStmt.TheVariants as stmt
-use Rattle.hir_raw.specs.Signatures.{type_args}
-use Rattle.hir_raw.specs.WrittenTypes.{filled_within, lowered}
-use Rattle.goal_answers.specs.Answers.{answers}
-use Rattle.goal_answers.specs.Goals.{Asked, System, implements, projects, only}
-use Rattle.goal_answers.specs.Reading.{IsRead, Aliases, ReadsAs, alias_at}
-use Rattle.goal_answers.proofs.Readings.{read_reads}
-use Rattle.goal_facts.specs.declared.proof.Proof.{Proof}
-use Rattle.goal_facts.specs.Environment.{IsStated}
-use Rattle.goal_facts.specs.Systems.{IsSystemOf}
-use Rattle.infer_result.specs.declared.gaps.Gap.{Gap}
+use Rattle.infer_needs.specs.Words.hir_raw.declared.raw.RawExpr.TheVariants as expr
+use Rattle.infer_needs.specs.Words.hir_raw.declared.raw.RawPat.TheVariants as pat
+use Rattle.infer_needs.specs.Words.hir_raw.declared.raw.RawStmt.TheVariants as stmt
+use Rattle.infer_needs.proofs.Words.{read_reads, p, b, w, u8, plain, body_of}
 use Rattle.infer_result.specs.declared.modes.BindingMode.TheVariants as mode
-use Rattle.infer_result.specs.declared.result.InferenceResult.{InferenceResult}
-use Rattle.infer_result.specs.Needs.{IsNeeded, needs_at, pat_needs_at}
-use Rattle.infer_result.specs.OwnTypes.{HoldsPlaceholder}
-use Rattle.infer_result.specs.Places.{Given}
-use Rattle.infer_result.specs.Projections.{HasEntry, IsPartOf}
-use Rattle.infer_result.specs.Typed.{given as given_in}
-use Rattle.infer_result.specs.WrittenAliases.{args_term, WrittenAreListed, AboutIsListed, AllWrittenAreListed}
-use Rattle.infer_result.proofs.Samples.Small.{p, b, w, u8, plain, body_of}
 use Rattle.infer_needs.proofs.Samples.Impls.{tr, out, facts, own, own_body, showing, u8_term, bool_term, implemented, found_as, nothing_follows, nothing_stated}
 use Rattle.infer_needs.proofs.Samples.Sources.{reads_bare, neither, nothing}
 use Rattle.infer_needs.proofs.Samples.Needed.{given, table_of, path_node, needs_are, needed, closed, sources, are_sources}

@@ -1,32 +1,13 @@
 -- Tables over the facts of `Impls` in which goals don't hold: complaints, proofs and entries that are wrong. What nodes of `need(1u8)` need holds.
 use Rattle.std.proofs.Common.{ℕ, suc, ◌≡◌, inl, inr, Bool, true, false, List, [], ◌∷◌, ◌++◌, map, refl, sym, ap, subst, ◌∙◌, true≢false, Some, slice_get}
 use Rattle.std.specs.Prelude.{flat_map}
-use Rattle.hir_types.specs.declared.goal.Goal.{Goal}
+use Rattle.infer_needs.specs.Words.{Goal, ExprOrPatId, TypeAliasId, GenericArg, Ty, Ty-F, out-Ty, out-roll-Ty, hole, term_char, term_uint, term_var, RawLiteral, type_args, Aliases, Rule, System, implements, only, is_among, OneIf, Each, SomeOf, Verdicts, Proves, ShadowsNot, HasSource, alias_next, answers, Proof, asked_goal, impl_rules, fact, IsSystemOf, Gap, InferenceResult, HasGap, HoldsNoHole, IsProved, GoalsHold, NeedsHold}
 use Rattle.hir_types.specs.declared.goal.Goal.TheVariants as goal
-use Rattle.hir_types.specs.declared.ids.ExprOrPatId.{ExprOrPatId}
 use Rattle.hir_types.specs.declared.ids.ExprOrPatId.TheVariants as node
-use Rattle.hir_types.specs.declared.ids.TypeAliasId.{TypeAliasId}
-use Rattle.hir_types.specs.declared.ty.GenericArg.{GenericArg}
-use Rattle.hir_types.specs.declared.ty.Ty.{Ty, Ty-F, out-Ty, out-roll-Ty}
 use Rattle.hir_types.specs.declared.ty.Ty.TheVariants as ty
 use Rattle.hir_types.specs.declared.ty.UintTy.TheVariants as uint
-use Rattle.hir_types.specs.Terms.{hole}
-use Rattle.hir_types.specs.TermLaws.{term_char, term_uint, term_var}
-use Rattle.hir_raw.specs.declared.raw.RawLiteral.{RawLiteral}
-use Rattle.hir_raw.specs.Signatures.{type_args}
-use Rattle.goal_answers.specs.Reading.{Aliases}
-use Rattle.goal_answers.specs.Goals.{Rule, System, implements, only, is_among, OneIf, Each, SomeOf, Verdicts}
-use Rattle.goal_answers.specs.Answers.{Proves, ShadowsNot, HasSource, alias_next, answers}
-use Rattle.goal_answers.proofs.Readings.{read_reads, hole_filling}
-use Rattle.goal_facts.specs.declared.proof.Proof.{Proof}
-use Rattle.goal_facts.specs.Goals.{asked_goal}
-use Rattle.goal_facts.specs.Impls.{impl_rules}
-use Rattle.goal_facts.specs.Systems.{fact, IsSystemOf}
-use Rattle.infer_result.specs.declared.gaps.Gap.{Gap}
+use Rattle.infer_needs.proofs.Words.{read_reads, hole_filling, e, u8, one_u8}
 use Rattle.infer_result.specs.declared.gaps.Gap.TheVariants as gap
-use Rattle.infer_result.specs.declared.result.InferenceResult.{InferenceResult}
-use Rattle.infer_result.specs.Needs.{HasGap, HoldsNoHole, IsProved, GoalsHold, NeedsHold}
-use Rattle.infer_result.proofs.Samples.Small.{e, u8, one_u8}
 use Rattle.infer_needs.proofs.Samples.Impls.{tr, out, facts, own, own_body, for_bool, for_w, u8_term, char_term, implemented, found_as, u8_rules, no_clauses}
 use Rattle.infer_needs.proofs.Samples.Sources.{asks_out_is, w_of}
 use Rattle.infer_needs.proofs.Samples.ImplProofs.{by_impl, other_type, one_argument, no_child}

@@ -1,33 +1,14 @@
 -- `fn f() -> u8 { id(1u8) }` where `fn id<T>(x: T) -> T`: the call has the output at the type of the argument.
 use Rattle.std.proofs.Common.{ℕ, ◌≡◌, inl, inr, List, [], ◌∷◌, refl, sym, ap, subst, ◌∙◌, arith, Option, Some, None}
 use Rattle.hir_types.specs.declared.ids.CallableDefId.TheVariants as callable
-use Rattle.hir_types.specs.declared.ty.Ty.{Ty}
+use Rattle.infer_result.specs.Words.{Ty, RawType, RawFn, erased, IsClosed, arg_as_type, with_params, replaced_param, carried_type_arg, carried_integer, filled_within, written_type, fn_signature, type_args, at_args}
 use Rattle.hir_types.specs.declared.ty.Ty.TheVariants as ty
 use Rattle.hir_types.specs.declared.ty.UintTy.TheVariants as uint
 use Rattle.hir_types.specs.declared.ty.IntegerTy.TheVariants as integer
-use Rattle.hir_raw.specs.declared.raw.RawType.{RawType}
-use Rattle.hir_raw.specs.declared.raw.RawType.TheVariants as type
-use Rattle.hir_raw.specs.declared.raw.RawParam.TheVariants as parameter
-use Rattle.hir_raw.specs.declared.raw.RawFn.{RawFn}
-use Rattle.hir_types.specs.Erasure.{erased, IsClosed}
-use Rattle.hir_types.specs.Assigned.{arg_as_type, with_params}
-use Rattle.hir_types.specs.Replacements.{replaced_param}
-use Rattle.hir_facts.specs.CarriedTypes.{carried_type_arg, carried_integer}
-use Rattle.hir_raw.specs.WrittenTypes.{filled_within, written_type}
-use Rattle.hir_raw.specs.Signatures.{fn_signature, type_args, at_args}
-use Rattle.infer_result.specs.declared.result.InferenceResult.{InferenceResult}
-use Rattle.infer_result.specs.declared.result.TypeMismatch.{TypeMismatch}
-use Rattle.infer_result.specs.declared.diagnostics.InferenceDiagnostic.{InferenceDiagnostic}
+use Rattle.infer_result.specs.Words.hir_raw.declared.raw.RawType.TheVariants as type
+use Rattle.infer_result.specs.Words.hir_raw.declared.raw.RawParam.TheVariants as parameter
+use Rattle.infer_result.specs.Own.{InferenceResult, TypeMismatch, InferenceDiagnostic, NamesVariant, IsVariantPat, HasTy, mismatch, Given, Demand, ObeysOrMismatch, IsTruePatMismatch, IsTrueDiagnostic, IsTruePatDiagnostic, IsMisfit, IsMade, IsTyped}
 use Rattle.infer_result.specs.declared.diagnostics.InferenceDiagnostic.TheVariants as diagnostic
-use Rattle.infer_result.specs.Closed.{NamesVariant, IsVariantPat}
-use Rattle.infer_result.specs.Table.{HasTy, mismatch}
-use Rattle.infer_result.specs.Places.{Given}
-use Rattle.infer_result.specs.Demands.{Demand}
-use Rattle.infer_result.specs.Rules.{ObeysOrMismatch}
-use Rattle.infer_result.specs.Truth.Mismatch.{IsTruePatMismatch}
-use Rattle.infer_result.specs.Truth.Diagnostics.{IsTrueDiagnostic, IsTruePatDiagnostic}
-use Rattle.infer_result.specs.Made.{IsMisfit, IsMade}
-use Rattle.infer_result.specs.Typed.{IsTyped}
 use Rattle.infer_result.proofs.Derived.{typed_by_schedule}
 use Rattle.infer_result.proofs.Samples.Small.{e, w, u8, one_u8, function_of, each_below, only, each_entry, each_found, closed_u8, u8_is_no_bool, u8_differs_bool, none_placed, no_pat_items}
 use Rattle.infer_result.proofs.Samples.Calling.{function, calling, schedule, is_schedule, item, closed_item, top_arg, obeyed, unseen, counted}

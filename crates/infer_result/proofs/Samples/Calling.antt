@@ -1,33 +1,13 @@
 -- What the samples of calls share: a body `{ f(x) }` that calls the one function of the facts with a literal.
 use Rattle.std.proofs.Common.{ℕ, ◌+◌, ◌<◌, ◌≡◌, inl, inr, List, [], ◌∷◌, length, map, refl, sym, ap, subst, ◌∙◌, arith, Some, None, slice_get}
-use Rattle.hir_types.specs.declared.ids.ExprId.{ExprId}
-use Rattle.hir_types.specs.declared.ids.FunctionId.{FunctionId}
+use Rattle.infer_result.specs.Words.{ExprId, FunctionId, GenericArg-F, out-GenericArg, out-roll-GenericArg, Ty, RawLiteral, RawType, RawFn, RawBody, Schedule, IsClosed, AreCarriedArgs, carried_fn_def, carried_bare, argument, the_body, inner, IsSchedule, start, end, after, Fits, parts, written_type, Signature, fn_types, fn_signature, signature_of, type_args, at_args}
 use Rattle.hir_types.specs.declared.ids.ExprOrPatId.TheVariants as node
 use Rattle.hir_types.specs.declared.ids.CallableDefId.TheVariants as callable
-use Rattle.hir_types.specs.declared.ty.GenericArg.{GenericArg-F, out-GenericArg, out-roll-GenericArg}
 use Rattle.hir_types.specs.declared.ty.GenericArg.TheVariants as arg
-use Rattle.hir_types.specs.declared.ty.Ty.{Ty}
 use Rattle.hir_types.specs.declared.ty.Ty.TheVariants as ty
-use Rattle.hir_raw.specs.declared.raw.RawLiteral.{RawLiteral}
-use Rattle.hir_raw.specs.declared.raw.RawPath.TheVariants as path
-use Rattle.hir_raw.specs.declared.raw.RawExpr.TheVariants as expr
-use Rattle.hir_raw.specs.declared.raw.RawType.{RawType}
-use Rattle.hir_raw.specs.declared.raw.RawFn.{RawFn}
-use Rattle.hir_raw.specs.declared.raw.RawBody.{RawBody}
-use Rattle.hir_raw.specs.declared.schedule.Schedule.{Schedule}
-use Rattle.hir_types.specs.Erasure.{IsClosed}
-use Rattle.hir_facts.specs.CarriedTypes.{AreCarriedArgs, carried_fn_def, carried_bare}
-use Rattle.hir_raw.specs.Order.{argument, the_body, inner, IsSchedule, start, end, after, Fits, parts}
-use Rattle.hir_raw.specs.WrittenTypes.{written_type}
-use Rattle.hir_raw.specs.Signatures.{Signature, fn_types, fn_signature, signature_of, type_args, at_args}
-use Rattle.infer_result.specs.declared.result.InferenceResult.{InferenceResult}
-use Rattle.infer_result.specs.Table.{HasTy, WasSeen}
-use Rattle.infer_result.specs.Places.{Given}
-use Rattle.infer_result.specs.Kinds.Call.{IsCallee, ArgsRule, IsWrongCount}
-use Rattle.infer_result.specs.Kinds.If.{IsOfBranch}
-use Rattle.infer_result.specs.Demands.{Demand}
-use Rattle.infer_result.specs.Placing.{at_or_mismatch}
-use Rattle.infer_result.specs.Rules.{ObeysOrMismatch}
+use Rattle.infer_result.specs.Words.hir_raw.declared.raw.RawPath.TheVariants as path
+use Rattle.infer_result.specs.Words.hir_raw.declared.raw.RawExpr.TheVariants as expr
+use Rattle.infer_result.specs.Own.{InferenceResult, HasTy, WasSeen, Given, IsCallee, ArgsRule, IsWrongCount, IsOfBranch, Demand, at_or_mismatch, ObeysOrMismatch}
 use Rattle.infer_result.proofs.Derived.{one_at, fn_def_parts}
 use Rattle.infer_result.proofs.Samples.Small.{scope_among, e, body_of, each_node, apart_by, asked}
 

@@ -3,48 +3,21 @@
 use Rattle.std.proofs.Common.{◌+◌, ◌<◌, ◌≡◌, inl, inr, List, [], ◌∷◌, ◌++◌, length, refl, sym, ap, subst, ◌∙◌, arith, append-nil, Option, Some, None, slice_get}
 use Rattle.hir_types.specs.declared.ids.CallableDefId.TheVariants as callable
 use Rattle.hir_types.specs.declared.ids.ExprOrPatId.TheVariants as node
-use Rattle.hir_types.specs.declared.ids.TypeAliasId.{TypeAliasId}
-use Rattle.hir_types.specs.declared.ty.GenericArg.{GenericArg}
-use Rattle.hir_types.specs.declared.ty.Ty.{Ty, Ty-F, out-Ty, out-roll-Ty}
+use Rattle.infer_result.specs.Words.{TypeAliasId, GenericArg, Ty, Ty-F, out-Ty, out-roll-Ty, RawType, RawVariant, RawBody, Schedule, unit, IsClosed, param_at, filled_within, written_type, adt_params, type_args, at_args, variant_types, ctor_item, subpattern, the_body, inner, IsSchedule, start, end, after, Fits, parts, Asked}
 use Rattle.hir_types.specs.declared.ty.Ty.TheVariants as ty
 use Rattle.hir_types.specs.declared.ty.UintTy.TheVariants as uint
 use Rattle.hir_types.specs.declared.ty.IntegerTy.TheVariants as integer
-use Rattle.hir_raw.specs.declared.raw.RawType.{RawType}
-use Rattle.hir_raw.specs.declared.raw.RawType.TheVariants as type
-use Rattle.hir_raw.specs.declared.raw.RawParam.TheVariants as parameter
-use Rattle.hir_raw.specs.declared.raw.RawAdtKind.TheVariants as kind
-use Rattle.hir_raw.specs.declared.raw.RawCtor.TheVariants as ctor
-use Rattle.hir_raw.specs.declared.raw.RawVariant.{RawVariant}
-use Rattle.hir_raw.specs.declared.raw.RawStmt.TheVariants as stmt
-use Rattle.hir_raw.specs.declared.raw.RawPath.TheVariants as path
-use Rattle.hir_raw.specs.declared.raw.RawExpr.TheVariants as expr
-use Rattle.hir_raw.specs.declared.raw.RawPat.TheVariants as pat
-use Rattle.hir_raw.specs.declared.raw.RawBody.{RawBody}
-use Rattle.hir_raw.specs.declared.schedule.Schedule.{Schedule}
-use Rattle.hir_types.specs.Types.{unit}
-use Rattle.hir_types.specs.Erasure.{IsClosed}
-use Rattle.hir_types.specs.Instances.{param_at}
-use Rattle.hir_types.proofs.Layers.{has_hole_adt, has_hole_fn_def}
-use Rattle.hir_raw.specs.WrittenTypes.{filled_within, written_type}
-use Rattle.hir_raw.specs.Scope.{adt_params}
-use Rattle.hir_raw.specs.Signatures.{type_args, at_args, variant_types, ctor_item}
-use Rattle.hir_raw.specs.Order.{subpattern, the_body, inner, IsSchedule, start, end, after, Fits, parts}
-use Rattle.goal_answers.specs.Goals.{Asked}
-use Rattle.infer_result.specs.declared.result.InferenceResult.{InferenceResult}
+use Rattle.infer_result.specs.Words.hir_raw.declared.raw.RawType.TheVariants as type
+use Rattle.infer_result.specs.Words.hir_raw.declared.raw.RawParam.TheVariants as parameter
+use Rattle.infer_result.specs.Words.hir_raw.declared.raw.RawAdtKind.TheVariants as kind
+use Rattle.infer_result.specs.Words.hir_raw.declared.raw.RawCtor.TheVariants as ctor
+use Rattle.infer_result.specs.Words.hir_raw.declared.raw.RawStmt.TheVariants as stmt
+use Rattle.infer_result.specs.Words.hir_raw.declared.raw.RawPath.TheVariants as path
+use Rattle.infer_result.specs.Words.hir_raw.declared.raw.RawExpr.TheVariants as expr
+use Rattle.infer_result.specs.Words.hir_raw.declared.raw.RawPat.TheVariants as pat
+use Rattle.infer_result.proofs.Words.{has_hole_adt, has_hole_fn_def}
+use Rattle.infer_result.specs.Own.{InferenceResult, alias_goal, PatTy, BindingTy, Given, IsVariantAt, IsCtorAt, IsItemOf, IsPatOf, Demand, ObeysOrMismatch, PatRule, IsTruePatMismatch, IsTrueDiagnostic, IsTruePatDiagnostic, IsBinder, NamesVariant, IsVariantPat, IsItemOfPat, IsMisfit, IsMade, IsNeeded, pat_needs_by, IsTyped}
 use Rattle.infer_result.specs.declared.modes.BindingMode.TheVariants as mode
-use Rattle.infer_result.specs.AliasNeeds.{alias_goal}
-use Rattle.infer_result.specs.Table.{PatTy, BindingTy}
-use Rattle.infer_result.specs.Places.{Given}
-use Rattle.infer_result.specs.Kinds.Constructor.{IsVariantAt, IsCtorAt}
-use Rattle.infer_result.specs.Pats.Constructor.{IsItemOf, IsPatOf}
-use Rattle.infer_result.specs.Demands.{Demand}
-use Rattle.infer_result.specs.Rules.{ObeysOrMismatch, PatRule}
-use Rattle.infer_result.specs.Truth.Mismatch.{IsTruePatMismatch}
-use Rattle.infer_result.specs.Truth.Diagnostics.{IsTrueDiagnostic, IsTruePatDiagnostic}
-use Rattle.infer_result.specs.Closed.{IsBinder, NamesVariant, IsVariantPat, IsItemOfPat}
-use Rattle.infer_result.specs.Made.{IsMisfit, IsMade}
-use Rattle.infer_result.specs.Needs.{IsNeeded, pat_needs_by}
-use Rattle.infer_result.specs.Typed.{IsTyped}
 use Rattle.infer_result.proofs.Derived.{typed_by_schedule}
 use Rattle.infer_result.proofs.Samples.Small.{e, p, b, w, u8, plain, body_with, each_below, each_node, apart_by, one_param, only, each_entry, each_found, each_placed, closed_u8, closed_unit, none_placed}
 use Rattle.infer_result.proofs.Samples.Constructors.{v, adt, adt_of, variant_of, scope_of_adt}

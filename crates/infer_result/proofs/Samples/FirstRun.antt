@@ -1,28 +1,14 @@
 -- The table of the first run, `fn f() -> u8 { let x = 1u8; x }`, is typed; tables that are wrong at one node are not.
 use Rattle.std.proofs.Common.{◌+◌, ◌<◌, ◌≡◌, inl, inr, Bool, true, false, List, [], ◌∷◌, refl, sym, ap, ◌∙◌, arith, Option, Some, None, slice_get}
 use Rattle.hir_types.specs.declared.ids.ExprOrPatId.TheVariants as node
-use Rattle.hir_types.specs.declared.ty.Ty.{Ty, Ty-F, fold-roll-Ty}
+use Rattle.infer_result.specs.Words.{Ty, Ty-F, fold-roll-Ty, RawBody, Schedule, erased, has_hole, hole_arg, hole_step, hole_bound, hole_trait, IsClosed, initializer, tail, the_body, inner, IsSchedule, start, end, after, Fits, parts}
 use Rattle.hir_types.specs.declared.ty.Ty.TheVariants as ty
-use Rattle.hir_raw.specs.declared.raw.RawPath.TheVariants as path
-use Rattle.hir_raw.specs.declared.raw.RawStmt.TheVariants as stmt
-use Rattle.hir_raw.specs.declared.raw.RawExpr.TheVariants as expr
-use Rattle.hir_raw.specs.declared.raw.RawPat.TheVariants as pat
-use Rattle.hir_raw.specs.declared.raw.RawBody.{RawBody}
-use Rattle.hir_raw.specs.declared.schedule.Schedule.{Schedule}
-use Rattle.hir_types.specs.Erasure.{erased, has_hole, hole_arg, hole_step, hole_bound, hole_trait, IsClosed}
-use Rattle.hir_raw.specs.Order.{initializer, tail, the_body, inner, IsSchedule, start, end, after, Fits, parts}
-use Rattle.infer_result.specs.declared.result.InferenceResult.{InferenceResult}
-use Rattle.infer_result.specs.declared.result.TypeMismatch.{TypeMismatch}
+use Rattle.infer_result.specs.Words.hir_raw.declared.raw.RawPath.TheVariants as path
+use Rattle.infer_result.specs.Words.hir_raw.declared.raw.RawStmt.TheVariants as stmt
+use Rattle.infer_result.specs.Words.hir_raw.declared.raw.RawExpr.TheVariants as expr
+use Rattle.infer_result.specs.Words.hir_raw.declared.raw.RawPat.TheVariants as pat
+use Rattle.infer_result.specs.Own.{InferenceResult, TypeMismatch, BindingTy, mismatch, Given, Demand, ObeysOrMismatch, PatRule, IsTruePatMismatch, IsTrueDiagnostic, IsTruePatDiagnostic, IsBinder, NamesVariant, IsVariantPat, IsMisfit, IsMade, IsTyped}
 use Rattle.infer_result.specs.declared.modes.BindingMode.TheVariants as mode
-use Rattle.infer_result.specs.Table.{BindingTy, mismatch}
-use Rattle.infer_result.specs.Places.{Given}
-use Rattle.infer_result.specs.Demands.{Demand}
-use Rattle.infer_result.specs.Rules.{ObeysOrMismatch, PatRule}
-use Rattle.infer_result.specs.Truth.Mismatch.{IsTruePatMismatch}
-use Rattle.infer_result.specs.Truth.Diagnostics.{IsTrueDiagnostic, IsTruePatDiagnostic}
-use Rattle.infer_result.specs.Closed.{IsBinder, NamesVariant, IsVariantPat}
-use Rattle.infer_result.specs.Made.{IsMisfit, IsMade}
-use Rattle.infer_result.specs.Typed.{IsTyped}
 use Rattle.infer_result.proofs.Derived.{typed_by_schedule}
 use Rattle.infer_result.proofs.Samples.Small.{scope_with, e, p, b, u8, u16, one_u8, plain, body_of, each_below, each_node, apart_by, asked, only, each_entry, each_found, closed_u8, u8_is_no_u16, u8_is_no_error, u8_differs_u16, each_placed, none_placed, no_pat_items}
 

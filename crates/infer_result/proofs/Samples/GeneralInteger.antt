@@ -3,57 +3,24 @@
 use Rattle.std.proofs.Common.{◌+◌, ◌<◌, ◌≡◌, inl, List, [], ◌∷◌, length, refl, sym, ap, subst, ◌∙◌, arith, Some, None, slice_get}
 use Rattle.std.specs.Prelude.{codes, IsTrue}
 use Rattle.hir_types.specs.declared.ids.CallableDefId.TheVariants as callable
-use Rattle.hir_types.specs.declared.ids.DefWithBodyId.{DefWithBodyId}
+use Rattle.infer_result.specs.Words.{DefWithBodyId, IntegerTy, Ty, RawType, RawAdt, RawVariant, RawFn, RawBody, RawFacts, Schedule, erased, IsClosed, replaced_int_var, replaced_tuple, param_at, Assignment, with_holes, folded, integer_type, unit, ty_fits, ty_fits_tuple, let_pattern, the_body, inner, IsSchedule, start, end, after, Fits, parts, plain_bool, Scope, scope_of, fn_signature, at_args, filled_within, written_type, fallback, fn_aliases, variant_aliases}
 use Rattle.hir_types.specs.declared.ids.DefWithBodyId.TheVariants as def
 use Rattle.hir_types.specs.declared.ids.ExprOrPatId.TheVariants as node
 use Rattle.hir_types.specs.declared.ty.Const.TheVariants as const
 use Rattle.hir_types.specs.declared.ty.IntTy.TheVariants as int
 use Rattle.hir_types.specs.declared.ty.UintTy.TheVariants as uint
-use Rattle.hir_types.specs.declared.ty.IntegerTy.{IntegerTy}
 use Rattle.hir_types.specs.declared.ty.IntegerTy.TheVariants as integer
-use Rattle.hir_types.specs.declared.ty.Ty.{Ty}
 use Rattle.hir_types.specs.declared.ty.Ty.TheVariants as ty
-use Rattle.hir_raw.specs.declared.raw.RawType.{RawType}
-use Rattle.hir_raw.specs.declared.raw.RawType.TheVariants as type
-use Rattle.hir_raw.specs.declared.raw.RawParam.TheVariants as parameter
-use Rattle.hir_raw.specs.declared.raw.RawLiteral.TheVariants as literal
-use Rattle.hir_raw.specs.declared.raw.RawPath.TheVariants as path
-use Rattle.hir_raw.specs.declared.raw.RawStmt.TheVariants as stmt
-use Rattle.hir_raw.specs.declared.raw.RawExpr.TheVariants as expr
-use Rattle.hir_raw.specs.declared.raw.RawPat.TheVariants as pat
-use Rattle.hir_raw.specs.declared.raw.RawAdt.{RawAdt}
-use Rattle.hir_raw.specs.declared.raw.RawVariant.{RawVariant}
-use Rattle.hir_raw.specs.declared.raw.RawFn.{RawFn}
-use Rattle.hir_raw.specs.declared.raw.RawBody.{RawBody}
-use Rattle.hir_raw.specs.declared.raw.RawFacts.{RawFacts}
-use Rattle.hir_raw.specs.declared.schedule.Schedule.{Schedule}
-use Rattle.hir_types.specs.Erasure.{erased, IsClosed}
-use Rattle.hir_types.specs.Replacements.{replaced_int_var, replaced_tuple}
-use Rattle.hir_types.specs.Instances.{param_at}
-use Rattle.hir_types.proofs.Layers.{has_hole_integer}
-use Rattle.hir_types.specs.Subst.{Assignment, with_holes, folded}
-use Rattle.hir_types.specs.Types.{integer_type, unit}
-use Rattle.hir_raw.specs.Fit.{ty_fits}
-use Rattle.hir_raw.specs.Fitting.{ty_fits_tuple}
-use Rattle.hir_raw.specs.Order.{let_pattern, the_body, inner, IsSchedule, start, end, after, Fits, parts}
-use Rattle.hir_facts.specs.PlainTypes.{plain_bool}
-use Rattle.hir_raw.specs.Scope.{Scope, scope_of}
-use Rattle.hir_raw.specs.Signatures.{fn_signature, at_args}
-use Rattle.hir_raw.specs.WrittenTypes.{filled_within, written_type}
-use Rattle.infer_result.specs.declared.result.General.{General}
-use Rattle.infer_result.specs.declared.result.InferenceResult.{InferenceResult}
+use Rattle.infer_result.specs.Words.hir_raw.declared.raw.RawType.TheVariants as type
+use Rattle.infer_result.specs.Words.hir_raw.declared.raw.RawParam.TheVariants as parameter
+use Rattle.infer_result.specs.Words.hir_raw.declared.raw.RawLiteral.TheVariants as literal
+use Rattle.infer_result.specs.Words.hir_raw.declared.raw.RawPath.TheVariants as path
+use Rattle.infer_result.specs.Words.hir_raw.declared.raw.RawStmt.TheVariants as stmt
+use Rattle.infer_result.specs.Words.hir_raw.declared.raw.RawExpr.TheVariants as expr
+use Rattle.infer_result.specs.Words.hir_raw.declared.raw.RawPat.TheVariants as pat
+use Rattle.infer_result.proofs.Words.{has_hole_integer}
+use Rattle.infer_result.specs.Own.{General, InferenceResult, IsBinder, NamesVariant, IsVariantPat, AllTypes, IsDerivation, IsGeneralType, general_integer_hole, general_tuple, general_item, IsGeneralFor, HasTypesOf, IsPlainClosing, closed_by, IsGeneralOf, Given, ObeysExpression, ObeysPattern, HasTy, PatTy, BindingTy, given, IsKnown, has_unknown_tuple}
 use Rattle.infer_result.specs.declared.modes.BindingMode.TheVariants as mode
-use Rattle.infer_result.specs.Closed.{IsBinder, NamesVariant, IsVariantPat, AllTypes}
-use Rattle.infer_result.specs.Derivation.{IsDerivation}
-use Rattle.hir_types.specs.Fallback.{fallback}
-use Rattle.infer_result.specs.General.{IsGeneralType, general_integer_hole, general_tuple, general_item, IsGeneralFor, HasTypesOf, IsPlainClosing, closed_by, IsGeneralOf}
-use Rattle.infer_result.specs.Places.{Given}
-use Rattle.infer_result.specs.Rules.{ObeysExpression, ObeysPattern}
-use Rattle.infer_result.specs.Table.{HasTy, PatTy, BindingTy}
-use Rattle.infer_result.specs.Typed.{given}
-use Rattle.infer_result.specs.Unknown.{IsKnown}
-use Rattle.infer_result.specs.UnknownLayers.{has_unknown_tuple}
-use Rattle.hir_raw.specs.Hidden.{fn_aliases, variant_aliases}
 use Rattle.infer_result.proofs.NoNeeds.{no_gaps, needs_hold}
 use Rattle.infer_result.proofs.Samples.Small.{e, p, b, w, plain, body_of, function_of, facts_with, each_below, each_node, apart_by, comes, only, each_entry, each_found, each_placed, closed_unit, none_placed, no_pat_items}
 use Rattle.infer_result.proofs.Samples.Calling.{function, item}

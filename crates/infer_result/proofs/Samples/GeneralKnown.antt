@@ -4,16 +4,9 @@ use Rattle.std.specs.Prelude.{◌||◌}
 use Rattle.std.specs.List.{list_any}
 use Rattle.hir_types.specs.declared.ty.IntTy.TheVariants as int
 use Rattle.hir_types.specs.declared.ty.IntegerTy.TheVariants as integer
-use Rattle.hir_types.specs.declared.ty.Ty.{Ty}
+use Rattle.infer_result.specs.Words.{Ty, replaced_var, replaced_int_var, with_holes, folded, Scope, type_args, fallback}
 use Rattle.hir_types.specs.declared.ty.Ty.TheVariants as ty
-use Rattle.hir_types.specs.Replacements.{replaced_var, replaced_int_var}
-use Rattle.hir_types.specs.Subst.{with_holes, folded}
-use Rattle.hir_raw.specs.Scope.{Scope}
-use Rattle.hir_raw.specs.Signatures.{type_args}
-use Rattle.hir_types.specs.Fallback.{fallback}
-use Rattle.infer_result.specs.General.{IsGeneralType, general_hole, general_integer_hole, general_bool, general_char, general_integer, general_tuple, general_adt, general_item, general_param}
-use Rattle.infer_result.specs.Unknown.{has_unknown, arg_has_unknown, IsKnown}
-use Rattle.infer_result.specs.UnknownLayers.{has_unknown_bool, has_unknown_char, has_unknown_tuple, has_unknown_adt, has_unknown_fn_def, has_unknown_param, has_unknown_error, has_unknown_var, has_unknown_int_var, arg_has_unknown_type}
+use Rattle.infer_result.specs.Own.{IsGeneralType, general_hole, general_integer_hole, general_bool, general_char, general_integer, general_tuple, general_adt, general_item, general_param, has_unknown, arg_has_unknown, IsKnown, has_unknown_bool, has_unknown_char, has_unknown_tuple, has_unknown_adt, has_unknown_fn_def, has_unknown_param, has_unknown_error, has_unknown_var, has_unknown_int_var, arg_has_unknown_type}
 use Rattle.infer_result.proofs.Samples.Holes.{known_integer}
 
 none_unknown : (ts : List Ty) → ((k : ℕ) (u : Ty) → slice_get ts k ≡ Some u → IsKnown u) → list_any has_unknown ts ≡ false

@@ -2,33 +2,20 @@
 -- plain type may stand.
 use Rattle.std.proofs.Common.{◌≡◌, List, [], ◌∷◌, refl, sym, ap, ◌∙◌, Some, None, slice_get}
 use Rattle.hir_types.specs.declared.ids.CallableDefId.TheVariants as callable
-use Rattle.hir_types.specs.declared.ids.DefWithBodyId.{DefWithBodyId}
+use Rattle.infer_result.specs.Words.{DefWithBodyId, Ty, RawType, RawFn, RawBody, RawFacts, replaced_var, replaced_bool, replaced_tuple, Assignment, with_holes, folded, unit, IsPlainIn, plain_bool, Scope, scope_of, fallback}
 use Rattle.hir_types.specs.declared.ids.DefWithBodyId.TheVariants as def
 use Rattle.hir_types.specs.declared.ty.Const.TheVariants as const
 use Rattle.hir_types.specs.declared.ty.IntTy.TheVariants as int
 use Rattle.hir_types.specs.declared.ty.IntegerTy.TheVariants as integer
-use Rattle.hir_types.specs.declared.ty.Ty.{Ty}
 use Rattle.hir_types.specs.declared.ty.Ty.TheVariants as ty
-use Rattle.hir_raw.specs.declared.raw.RawType.{RawType}
-use Rattle.hir_raw.specs.declared.raw.RawType.TheVariants as type
-use Rattle.hir_raw.specs.declared.raw.RawParam.TheVariants as parameter
-use Rattle.hir_raw.specs.declared.raw.RawPath.TheVariants as path
-use Rattle.hir_raw.specs.declared.raw.RawStmt.TheVariants as stmt
-use Rattle.hir_raw.specs.declared.raw.RawExpr.TheVariants as expr
-use Rattle.hir_raw.specs.declared.raw.RawPat.TheVariants as pat
-use Rattle.hir_raw.specs.declared.raw.RawFn.{RawFn}
-use Rattle.hir_raw.specs.declared.raw.RawBody.{RawBody}
-use Rattle.hir_raw.specs.declared.raw.RawFacts.{RawFacts}
-use Rattle.hir_types.specs.Replacements.{replaced_var, replaced_bool, replaced_tuple}
-use Rattle.hir_types.specs.Subst.{Assignment, with_holes, folded}
-use Rattle.hir_types.specs.Types.{unit}
-use Rattle.hir_facts.specs.PlainTypes.{IsPlainIn, plain_bool}
-use Rattle.hir_raw.specs.Scope.{Scope, scope_of}
-use Rattle.infer_result.specs.declared.result.General.{General}
-use Rattle.infer_result.specs.declared.result.InferenceResult.{InferenceResult}
+use Rattle.infer_result.specs.Words.hir_raw.declared.raw.RawType.TheVariants as type
+use Rattle.infer_result.specs.Words.hir_raw.declared.raw.RawParam.TheVariants as parameter
+use Rattle.infer_result.specs.Words.hir_raw.declared.raw.RawPath.TheVariants as path
+use Rattle.infer_result.specs.Words.hir_raw.declared.raw.RawStmt.TheVariants as stmt
+use Rattle.infer_result.specs.Words.hir_raw.declared.raw.RawExpr.TheVariants as expr
+use Rattle.infer_result.specs.Words.hir_raw.declared.raw.RawPat.TheVariants as pat
+use Rattle.infer_result.specs.Own.{General, InferenceResult, IsGeneralType, general_hole, general_bool, general_tuple, general_item, IsGeneralFor, HasTypesOf, IsPlainClosing}
 use Rattle.infer_result.specs.declared.modes.BindingMode.TheVariants as mode
-use Rattle.hir_types.specs.Fallback.{fallback}
-use Rattle.infer_result.specs.General.{IsGeneralType, general_hole, general_bool, general_tuple, general_item, IsGeneralFor, HasTypesOf, IsPlainClosing}
 use Rattle.infer_result.proofs.Samples.Small.{e, p, b, w, u8, plain, body_with, function_of, facts_with, only, u8_is_no_bool}
 use Rattle.infer_result.proofs.Samples.Calling.{function, item}
 use Rattle.infer_result.proofs.Samples.Holes.{each_in, item_under}

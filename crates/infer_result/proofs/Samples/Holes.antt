@@ -1,22 +1,11 @@
 -- What the samples of types with holes share: items and lists of types under assignments, and integer types.
 use Rattle.std.proofs.Common.{ℕ, zero, suc, ◌≡◌, List, [], ◌∷◌, map, true, refl, sym, ap, subst, ◌∙◌, Some, slice_get}
 use Rattle.hir_types.specs.declared.ids.CallableDefId.TheVariants as callable
-use Rattle.hir_types.specs.declared.ty.IntegerTy.{IntegerTy}
+use Rattle.infer_result.specs.Words.{IntegerTy, Ty, Ty-F, out-Ty, IsClosed, replaced_fn_def, types_args_folded, Assignment, with_holes, folded, integer_type, ty_fits, ty_fits_int, ty_fits_uint, ty_fits_fndef, arg_fits_ty, Scope, callable_params, has_params, type_args}
 use Rattle.hir_types.specs.declared.ty.IntegerTy.TheVariants as integer
-use Rattle.hir_types.specs.declared.ty.Ty.{Ty, Ty-F, out-Ty}
 use Rattle.hir_types.specs.declared.ty.Ty.TheVariants as ty
-use Rattle.hir_types.specs.Erasure.{IsClosed}
-use Rattle.hir_types.specs.Replacements.{replaced_fn_def}
-use Rattle.hir_types.specs.Instances.{types_args_folded}
-use Rattle.hir_types.proofs.Layers.{has_hole_fn_def}
-use Rattle.hir_types.specs.Subst.{Assignment, with_holes, folded}
-use Rattle.hir_types.specs.Types.{integer_type}
-use Rattle.hir_raw.specs.Fit.{ty_fits}
-use Rattle.hir_raw.specs.Fitting.{ty_fits_int, ty_fits_uint, ty_fits_fndef, arg_fits_ty}
-use Rattle.hir_raw.specs.Scope.{Scope, callable_params, has_params}
-use Rattle.hir_raw.specs.Signatures.{type_args}
-use Rattle.infer_result.specs.Unknown.{IsKnown}
-use Rattle.infer_result.specs.UnknownLayers.{has_unknown_int, has_unknown_uint, has_unknown_fn_def, arg_has_unknown_type}
+use Rattle.infer_result.proofs.Words.{has_hole_fn_def}
+use Rattle.infer_result.specs.Own.{IsKnown, has_unknown_int, has_unknown_uint, has_unknown_fn_def, arg_has_unknown_type}
 use Rattle.infer_result.proofs.Samples.Small.{top_int, top_uint, top_bool}
 use Rattle.infer_result.proofs.Samples.Calling.{function, item}
 

@@ -2,29 +2,12 @@
 use Rattle.std.proofs.Common.{ℕ, suc, ◌<◌, ◌≡◌, inl, inr, List, [], ◌∷◌, length, map, refl, sym, ap, subst, ◌∙◌, arith, Option, Some, slice_get}
 use Rattle.std.specs.Prelude.{◌&&◌, true}
 use Rattle.std.specs.List.{list_all}
-use Rattle.hir_types.specs.declared.ids.CallableDefId.{CallableDefId}
+use Rattle.infer_result.specs.Words.{CallableDefId, IntegerTy, Ty, erased, Same, integer_type, unit, RawBody, IsCarriedType, is_carried_type, is_carried_arg, carried_bool, carried_char, carried_integer, carried_tuple, carried_adt, carried_param, carried_type_arg, same_carried, IsPlainIn, plain_bool, plain_char, plain_integer, plain_tuple, plain_adt, plain_param, Scope, Signature, fn_signature, signature_of, type_args, at_args}
 use Rattle.hir_types.specs.declared.ids.CallableDefId.TheVariants as callable
 use Rattle.hir_types.specs.declared.ty.Const.TheVariants as const
-use Rattle.hir_types.specs.declared.ty.IntegerTy.{IntegerTy}
-use Rattle.hir_types.specs.declared.ty.Ty.{Ty}
 use Rattle.hir_types.specs.declared.ty.Ty.TheVariants as ty
-use Rattle.hir_types.specs.Erasure.{erased, Same}
-use Rattle.hir_types.specs.Types.{integer_type, unit}
-use Rattle.hir_raw.specs.declared.raw.RawBody.{RawBody}
-use Rattle.hir_facts.specs.CarriedTypes.{IsCarriedType, is_carried_type, is_carried_arg, carried_bool, carried_char, carried_integer, carried_tuple, carried_adt, carried_param, carried_type_arg, same_carried}
-use Rattle.hir_facts.specs.PlainTypes.{IsPlainIn, plain_bool, plain_char, plain_integer, plain_tuple, plain_adt, plain_param}
-use Rattle.hir_raw.specs.Scope.{Scope}
-use Rattle.hir_raw.specs.Signatures.{Signature, fn_signature, signature_of, type_args, at_args}
-use Rattle.infer_result.specs.declared.result.InferenceResult.{InferenceResult}
-use Rattle.infer_result.specs.Closed.{IsOfBody}
-use Rattle.infer_result.specs.Derivation.{IsCalled, IsPlainItem, IsPlainDerivation}
+use Rattle.infer_result.specs.Own.{InferenceResult, IsOfBody, IsCalled, IsPlainItem, IsPlainDerivation, IsPlainClosing, ArgsRule, CallRule, at_types, ObeysExpression, ObeysPattern, At, HasTy, PatTy, BindingTy, given}
 use Rattle.infer_result.proofs.Derived.{one_at, fn_def_parts, same_type_args}
-use Rattle.infer_result.specs.General.{IsPlainClosing}
-use Rattle.infer_result.specs.Kinds.Call.{ArgsRule, CallRule}
-use Rattle.infer_result.specs.Placing.{at_types}
-use Rattle.infer_result.specs.Rules.{ObeysExpression, ObeysPattern}
-use Rattle.infer_result.specs.Table.{At, HasTy, PatTy, BindingTy}
-use Rattle.infer_result.specs.Typed.{given}
 use Rattle.infer_result.proofs.Samples.Small.{e, p, b}
 use Rattle.infer_result.proofs.Samples.Calling.{function, item}
 use Rattle.infer_result.proofs.Samples.Holes.{each_in}

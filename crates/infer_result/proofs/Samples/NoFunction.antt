@@ -1,50 +1,19 @@
 -- `fn f() { 1u8(2u8); }`: what is called is no function, which is said at the call and kept in what was seen.
 use Rattle.std.proofs.Common.{ℕ, zero, suc, ◌+◌, ◌<◌, ◌≡◌, inl, inr, List, [], ◌∷◌, refl, sym, ap, subst, ◌∙◌, arith, Option, Some, None, slice_get}
 use Rattle.std.specs.Prelude.{Bool, codes, true}
-use Rattle.hir_types.specs.declared.ids.ExprId.{ExprId}
+use Rattle.infer_result.specs.Words.{ExprId, CallableDefId, GenericArg, Ty, Ty-F, out-Ty, out-roll-Ty, fold-roll-Ty, RawLiteral, RawType, RawFn, RawBody, Schedule, unit, IsClosed, Assignment, with_holes, replaced_uint, the_body, inner, IsSchedule, start, end, after, Fits, parts, fn_signature}
 use Rattle.hir_types.specs.declared.ids.ExprOrPatId.TheVariants as node
-use Rattle.hir_types.specs.declared.ids.CallableDefId.{CallableDefId}
 use Rattle.hir_types.specs.declared.ids.CallableDefId.TheVariants as callable
-use Rattle.hir_types.specs.declared.ty.GenericArg.{GenericArg}
-use Rattle.hir_types.specs.declared.ty.Ty.{Ty, Ty-F, out-Ty, out-roll-Ty, fold-roll-Ty}
 use Rattle.hir_types.specs.declared.ty.Ty.TheVariants as ty
 use Rattle.hir_types.specs.declared.ty.Const.TheVariants as const
 use Rattle.hir_types.specs.declared.ty.UintTy.TheVariants as uint
 use Rattle.hir_types.specs.declared.ty.IntegerTy.TheVariants as integer
-use Rattle.hir_raw.specs.declared.raw.RawLiteral.{RawLiteral}
-use Rattle.hir_raw.specs.declared.raw.RawLiteral.TheVariants as literal
-use Rattle.hir_raw.specs.declared.raw.RawPath.TheVariants as path
-use Rattle.hir_raw.specs.declared.raw.RawStmt.TheVariants as stmt
-use Rattle.hir_raw.specs.declared.raw.RawExpr.TheVariants as expr
-use Rattle.hir_raw.specs.declared.raw.RawType.{RawType}
-use Rattle.hir_raw.specs.declared.raw.RawFn.{RawFn}
-use Rattle.hir_raw.specs.declared.raw.RawBody.{RawBody}
-use Rattle.hir_raw.specs.declared.schedule.Schedule.{Schedule}
-use Rattle.hir_types.specs.Types.{unit}
-use Rattle.hir_types.specs.Erasure.{IsClosed}
-use Rattle.hir_types.specs.Subst.{Assignment, with_holes}
-use Rattle.hir_types.specs.Replacements.{replaced_uint}
-use Rattle.hir_raw.specs.Order.{the_body, inner, IsSchedule, start, end, after, Fits, parts}
-use Rattle.hir_raw.specs.Signatures.{fn_signature}
-use Rattle.infer_result.specs.declared.result.InferenceResult.{InferenceResult}
-use Rattle.infer_result.specs.declared.result.Seen.{Seen}
-use Rattle.infer_result.specs.declared.diagnostics.InferenceDiagnostic.{InferenceDiagnostic}
+use Rattle.infer_result.specs.Words.hir_raw.declared.raw.RawLiteral.TheVariants as literal
+use Rattle.infer_result.specs.Words.hir_raw.declared.raw.RawPath.TheVariants as path
+use Rattle.infer_result.specs.Words.hir_raw.declared.raw.RawStmt.TheVariants as stmt
+use Rattle.infer_result.specs.Words.hir_raw.declared.raw.RawExpr.TheVariants as expr
+use Rattle.infer_result.specs.Own.{InferenceResult, Seen, InferenceDiagnostic, NamesVariant, IsVariantPat, HasTy, HasDiagnostic, Given, Demand, IsOwnType, ObeysOrMismatch, unknown_arg, unknown_step, unknown_bound, unknown_trait, has_unknown, IsKnown, Up, of_literal, of_written, of_initializer, of_parameter, of_call, of_unit, Outermost, HasHead, HeadOf, IsTruePatMismatch, callable_step, IsPathToItem, IsSaid, IsTrueSeen, IsTrueDiagnostic, IsTruePatDiagnostic, IsMisfit, IsMade, IsTyped}
 use Rattle.infer_result.specs.declared.diagnostics.InferenceDiagnostic.TheVariants as diagnostic
-use Rattle.infer_result.specs.Closed.{NamesVariant, IsVariantPat}
-use Rattle.infer_result.specs.Table.{HasTy, HasDiagnostic}
-use Rattle.infer_result.specs.Places.{Given}
-use Rattle.infer_result.specs.Demands.{Demand}
-use Rattle.infer_result.specs.Kinds.Literal.{IsOwnType}
-use Rattle.infer_result.specs.Rules.{ObeysOrMismatch}
-use Rattle.infer_result.specs.Unknown.{unknown_arg, unknown_step, unknown_bound, unknown_trait, has_unknown, IsKnown}
-use Rattle.infer_result.specs.Upward.{Up, of_literal, of_written, of_initializer, of_parameter, of_call, of_unit}
-use Rattle.infer_result.specs.Heads.{Outermost, HasHead, HeadOf}
-use Rattle.infer_result.specs.Truth.Mismatch.{IsTruePatMismatch}
-use Rattle.infer_result.specs.Kinds.Call.{callable_step, IsPathToItem, IsSaid}
-use Rattle.infer_result.specs.Truth.Seen.{IsTrueSeen}
-use Rattle.infer_result.specs.Truth.Diagnostics.{IsTrueDiagnostic, IsTruePatDiagnostic}
-use Rattle.infer_result.specs.Made.{IsMisfit, IsMade}
-use Rattle.infer_result.specs.Typed.{IsTyped}
 use Rattle.infer_result.proofs.Derived.{typed_by_schedule}
 use Rattle.infer_result.proofs.Samples.Small.{scope_with, e, u8, one_u8, body_of, each_below, each_node, apart_by, only, each_entry, each_found, each_placed, closed_u8, closed_error, closed_unit, top_uint, u8_is_no_bool, none_placed, no_pat_items}
 use Rattle.infer_result.proofs.Samples.Calling.{function, calling, unseen}

@@ -3,21 +3,11 @@
 use Rattle.std.proofs.Common.{◌+◌, ◌<◌, ◌≡◌, inl, inr, refl, sym, ap, ◌∙◌, arith, List, [], ◌∷◌, Some, None}
 use Rattle.hir_types.specs.declared.ids.ExprOrPatId.TheVariants as node
 use Rattle.hir_types.specs.declared.ty.Const.TheVariants as const
-use Rattle.hir_types.specs.declared.ty.Ty.{Ty, Ty-F, out-Ty, out-roll-Ty}
+use Rattle.infer_result.specs.Words.{Ty, Ty-F, out-Ty, out-roll-Ty, replaced_bool, replaced_var, Assignment, with_holes, folded, unit, RawBody, Schedule, subpattern, the_body, inner, IsSchedule, start, end, after, Fits, parts}
 use Rattle.hir_types.specs.declared.ty.Ty.TheVariants as ty
-use Rattle.hir_types.specs.Replacements.{replaced_bool, replaced_var}
-use Rattle.hir_types.specs.Subst.{Assignment, with_holes, folded}
-use Rattle.hir_types.specs.Types.{unit}
-use Rattle.hir_raw.specs.declared.raw.RawBody.{RawBody}
-use Rattle.hir_raw.specs.declared.raw.RawExpr.TheVariants as expr
-use Rattle.hir_raw.specs.declared.raw.RawPat.TheVariants as pat
-use Rattle.hir_raw.specs.declared.schedule.Schedule.{Schedule}
-use Rattle.hir_raw.specs.Order.{subpattern, the_body, inner, IsSchedule, start, end, after, Fits, parts}
-use Rattle.infer_result.specs.declared.result.InferenceResult.{InferenceResult}
-use Rattle.infer_result.specs.Places.{Given, StandsAt, PatIsAtOrMismatch}
-use Rattle.infer_result.specs.Incoming.{Incoming}
-use Rattle.infer_result.specs.Rules.{ObeysPattern}
-use Rattle.infer_result.specs.Stable.{table_under}
+use Rattle.infer_result.specs.Words.hir_raw.declared.raw.RawExpr.TheVariants as expr
+use Rattle.infer_result.specs.Words.hir_raw.declared.raw.RawPat.TheVariants as pat
+use Rattle.infer_result.specs.Own.{InferenceResult, Given, StandsAt, PatIsAtOrMismatch, Incoming, ObeysPattern, table_under}
 use Rattle.infer_result.proofs.Under.{At-before, pat_type_under}
 use Rattle.infer_result.proofs.Samples.Small.{scope_with, e, p, body_with, each_node, apart_by, comes, only, top_bool, top_tuple}
 

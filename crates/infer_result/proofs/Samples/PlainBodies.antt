@@ -1,13 +1,10 @@
 -- The bodies of `GeneralInteger` and `GeneralShared` are plain.
 use Rattle.std.proofs.Common.{ℕ, ◌≡◌, [], ◌∷◌, refl, arith, Some, None, slice_get}
 use Rattle.std.specs.Prelude.{IsTrue}
-use Rattle.hir_types.specs.declared.ids.TypeRefId.{TypeRefId}
-use Rattle.hir_raw.specs.declared.raw.RawBody.{RawBody}
-use Rattle.hir_raw.specs.declared.raw.RawFacts.{RawFacts}
-use Rattle.hir_raw.specs.declared.raw.RawStmt.TheVariants as stmt
-use Rattle.hir_raw.specs.declared.raw.RawType.TheVariants as type
-use Rattle.hir_raw.specs.Order.{Part, Node, IsNode, parts, part_at}
-use Rattle.hir_facts.specs.Plain.{plain, IsPlainOver, IsPlainFn, stands_right, IsPlainStmt, IsPlainExpr, IsPlainPat, IsPlainBodyOf}
+use Rattle.infer_result.specs.Words.{TypeRefId, RawBody, RawFacts, Part, Node, IsNode, parts, part_at, IsPlainOver, IsPlainFn, stands_right, IsPlainStmt, IsPlainExpr, IsPlainPat, IsPlainBodyOf}
+use Rattle.infer_result.specs.Words.hir_raw.declared.raw.RawStmt.TheVariants as stmt
+use Rattle.infer_result.specs.Words.hir_raw.declared.raw.RawType.TheVariants as type
+use Rattle.infer_result.specs.Words.hir_facts.Plain.{plain}
 use Rattle.infer_result.proofs.Samples.Small.{w, p, e, AllNodes, each_node}
 use Rattle.infer_result.proofs.Samples.Calling.{function}
 use Rattle.infer_result.proofs.Samples.Holes.{AllIn, each_in}

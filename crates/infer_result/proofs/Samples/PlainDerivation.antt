@@ -1,16 +1,10 @@
 -- The tables of `GeneralInteger` at integer types are plain derivations: what is called is an item at plain types, and all other
 -- types are plain.
 use Rattle.std.proofs.Common.{ℕ, zero, suc, ◌≡◌, List, [], ◌∷◌, refl, sym, ap, subst, arith, Some, slice_get}
-use Rattle.hir_types.specs.declared.ids.ExprId.{ExprId}
+use Rattle.infer_result.specs.Words.{ExprId, IntegerTy, Ty, integer_type, unit, RawBody, IsPlainIn, plain_integer, plain_tuple}
 use Rattle.hir_types.specs.declared.ids.CallableDefId.TheVariants as callable
-use Rattle.hir_types.specs.declared.ty.IntegerTy.{IntegerTy}
-use Rattle.hir_types.specs.declared.ty.Ty.{Ty}
-use Rattle.hir_types.specs.Types.{integer_type, unit}
-use Rattle.hir_raw.specs.declared.raw.RawExpr.TheVariants as expr
-use Rattle.hir_raw.specs.declared.raw.RawBody.{RawBody}
-use Rattle.hir_facts.specs.PlainTypes.{IsPlainIn, plain_integer, plain_tuple}
-use Rattle.infer_result.specs.Derivation.{IsDerivation, IsCalled, IsPlainItem, IsPlainDerivation}
-use Rattle.infer_result.specs.Table.{At}
+use Rattle.infer_result.specs.Words.hir_raw.declared.raw.RawExpr.TheVariants as expr
+use Rattle.infer_result.specs.Own.{IsDerivation, IsCalled, IsPlainItem, IsPlainDerivation, At}
 use Rattle.infer_result.proofs.Samples.Small.{e, each_entry, each_placed}
 use Rattle.infer_result.proofs.Samples.Calling.{function}
 use Rattle.infer_result.proofs.Samples.Holes.{each_in}

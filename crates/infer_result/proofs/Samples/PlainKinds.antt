@@ -5,15 +5,9 @@ use Rattle.std.specs.List.{list_any, list_all}
 use Rattle.std.proofs.lemmas.List.{length-map}
 use Rattle.std.proofs.lemmas.Bool.{lt-ltb}
 use Rattle.hir_types.specs.declared.ty.GenericArg.TheVariants as arg
-use Rattle.hir_types.specs.declared.ty.Ty.{Ty}
-use Rattle.hir_types.specs.Erasure.{has_hole, IsClosed}
-use Rattle.hir_types.proofs.Layers.{has_hole_bool, has_hole_char, has_hole_integer, has_hole_tuple, has_hole_adt, has_hole_param}
-use Rattle.hir_raw.specs.Fit.{ty_fits, arg_fits}
-use Rattle.hir_raw.specs.Fitting.{ty_fits_bool, ty_fits_char, ty_fits_tuple, ty_fits_adt, ty_fits_fndef, ty_fits_param, ty_fits_var, ty_fits_intvar, arg_fits_ty}
-use Rattle.hir_facts.specs.PlainTypes.{IsPlainIn, plain_bool, plain_char, plain_integer, plain_tuple, plain_adt, plain_param}
-use Rattle.hir_raw.specs.Scope.{Scope, adt_params, callable_params, has_params}
-use Rattle.hir_raw.specs.Signatures.{type_args}
-use Rattle.infer_result.specs.General.{IsGeneralType, general_hole, general_integer_hole, general_bool, general_char, general_integer, general_tuple, general_adt, general_item, general_param}
+use Rattle.infer_result.specs.Words.{Ty, has_hole, IsClosed, ty_fits, arg_fits, ty_fits_bool, ty_fits_char, ty_fits_tuple, ty_fits_adt, ty_fits_fndef, ty_fits_param, ty_fits_var, ty_fits_intvar, arg_fits_ty, IsPlainIn, plain_bool, plain_char, plain_integer, plain_tuple, plain_adt, plain_param, Scope, adt_params, callable_params, has_params, type_args}
+use Rattle.infer_result.proofs.Words.{has_hole_bool, has_hole_char, has_hole_integer, has_hole_tuple, has_hole_adt, has_hole_param}
+use Rattle.infer_result.specs.Own.{IsGeneralType, general_hole, general_integer_hole, general_bool, general_char, general_integer, general_tuple, general_adt, general_item, general_param}
 use Rattle.infer_result.proofs.Samples.Holes.{fits_integer}
 
 -- a plain type is a type with holes that has none

@@ -3,33 +3,9 @@ use Rattle.std.proofs.Common.{◌+◌, ◌<◌, ◌≡◌, inl, [], ◌∷◌, r
 use Rattle.std.specs.Prelude.{IsTrue}
 use Rattle.hir_types.specs.declared.ids.CallableDefId.TheVariants as callable
 use Rattle.hir_types.specs.declared.ids.ExprOrPatId.TheVariants as node
-use Rattle.hir_types.specs.declared.ty.Ty.{Ty}
+use Rattle.infer_result.specs.Words.{Ty, RawAdt, RawVariant, RawFn, Schedule, erased, IsClosed, param_at, Assignment, unit, ty_fits, ty_fits_tuple, parameter as a_parameter, let_pattern, the_body, inner, IsSchedule, start, end, after, Fits, parts, IsPlainIn, plain_bool, fn_signature, at_args, filled_within, written_type, fn_aliases, variant_aliases}
 use Rattle.hir_types.specs.declared.ty.Ty.TheVariants as ty
-use Rattle.hir_raw.specs.declared.raw.RawAdt.{RawAdt}
-use Rattle.hir_raw.specs.declared.raw.RawVariant.{RawVariant}
-use Rattle.hir_raw.specs.declared.raw.RawFn.{RawFn}
-use Rattle.hir_raw.specs.declared.schedule.Schedule.{Schedule}
-use Rattle.hir_types.specs.Erasure.{erased, IsClosed}
-use Rattle.hir_types.specs.Instances.{param_at}
-use Rattle.hir_types.specs.Subst.{Assignment}
-use Rattle.hir_types.specs.Types.{unit}
-use Rattle.hir_raw.specs.Fit.{ty_fits}
-use Rattle.hir_raw.specs.Fitting.{ty_fits_tuple}
-use Rattle.hir_raw.specs.Order.{parameter as a_parameter, let_pattern, the_body, inner, IsSchedule, start, end, after, Fits, parts}
-use Rattle.hir_facts.specs.PlainTypes.{IsPlainIn, plain_bool}
-use Rattle.hir_raw.specs.Signatures.{fn_signature, at_args}
-use Rattle.hir_raw.specs.WrittenTypes.{filled_within, written_type}
-use Rattle.infer_result.specs.declared.result.InferenceResult.{InferenceResult}
-use Rattle.infer_result.specs.Closed.{IsBinder, NamesVariant, IsVariantPat, AllTypes}
-use Rattle.infer_result.specs.Derivation.{IsDerivation}
-use Rattle.infer_result.specs.General.{IsGeneralType, general_bool, closed_by, IsGeneralOf}
-use Rattle.infer_result.specs.Places.{Given}
-use Rattle.infer_result.specs.Rules.{ObeysExpression, ObeysPattern}
-use Rattle.infer_result.specs.Table.{HasTy, PatTy, BindingTy}
-use Rattle.infer_result.specs.Typed.{given}
-use Rattle.infer_result.specs.Unknown.{IsKnown}
-use Rattle.infer_result.specs.UnknownLayers.{has_unknown_bool, has_unknown_tuple}
-use Rattle.hir_raw.specs.Hidden.{fn_aliases, variant_aliases}
+use Rattle.infer_result.specs.Own.{InferenceResult, IsBinder, NamesVariant, IsVariantPat, AllTypes, IsDerivation, IsGeneralType, general_bool, closed_by, IsGeneralOf, Given, ObeysExpression, ObeysPattern, HasTy, PatTy, BindingTy, given, IsKnown, has_unknown_bool, has_unknown_tuple}
 use Rattle.infer_result.proofs.NoNeeds.{no_gaps, needs_hold}
 use Rattle.infer_result.proofs.Samples.Small.{e, p, b, w, each_below, each_node, apart_by, comes, only, each_entry, each_found, each_placed, closed_bool, closed_unit, none_placed, no_pat_items}
 use Rattle.infer_result.proofs.Samples.Calling.{function, item}

@@ -2,52 +2,20 @@
 use Rattle.std.proofs.Common.{ℕ, zero, suc, ◌<◌, ◌≡◌, inl, inr, List, [], ◌∷◌, length, refl, sym, ap, subst, ◌∙◌, arith, Option, Some, None, slice_get}
 use Rattle.std.specs.Prelude.{codes, true, false}
 use Rattle.std.proofs.Math.Nat.{eq-or-lt_of_le}
-use Rattle.hir_types.specs.declared.ids.ExprId.{ExprId}
-use Rattle.hir_types.specs.declared.ids.PatId.{PatId}
-use Rattle.hir_types.specs.declared.ids.BindingId.{BindingId}
-use Rattle.hir_types.specs.declared.ids.TypeRefId.{TypeRefId}
-use Rattle.hir_types.specs.declared.ids.ExprOrPatId.{ExprOrPatId}
+use Rattle.infer_result.specs.Words.{ExprId, PatId, BindingId, TypeRefId, ExprOrPatId, IntTy, UintTy, Ty, Ty-F, out-Ty, out-roll-Ty, RawLiteral, RawExpr, RawPat, RawBinding, RawType, RawParam, RawFn, RawBody, RawFacts, Schedule, IsClosed, Same, carried_bool, carried_integer, carried_tuple, same_carried, written_type, is_hole, Scope, types_scope, Role, Part, expr_part, Node, the_body, inner, IsNode, IsSchedule, start, parts, part_at}
 use Rattle.hir_types.specs.declared.ids.ExprOrPatId.TheVariants as node
-use Rattle.hir_types.specs.declared.ty.IntTy.{IntTy}
-use Rattle.hir_types.specs.declared.ty.UintTy.{UintTy}
 use Rattle.hir_types.specs.declared.ty.UintTy.TheVariants as uint
-use Rattle.hir_types.specs.declared.ty.Ty.{Ty, Ty-F, out-Ty, out-roll-Ty}
 use Rattle.hir_types.specs.declared.ty.Ty.TheVariants as ty
 use Rattle.hir_types.specs.declared.ty.IntegerTy.TheVariants as integer
-use Rattle.hir_raw.specs.declared.raw.RawLiteral.{RawLiteral}
-use Rattle.hir_raw.specs.declared.raw.RawLiteral.TheVariants as literal
-use Rattle.hir_raw.specs.declared.raw.RawExpr.{RawExpr}
-use Rattle.hir_raw.specs.declared.raw.RawPat.{RawPat}
-use Rattle.hir_raw.specs.declared.raw.RawBinding.{RawBinding}
-use Rattle.hir_raw.specs.declared.raw.BindingAnnotation.TheVariants as annotation
-use Rattle.hir_raw.specs.declared.raw.Edition.TheVariants as edition
-use Rattle.hir_raw.specs.declared.raw.RawType.{RawType}
-use Rattle.hir_raw.specs.declared.raw.RawType.TheVariants as type
-use Rattle.hir_raw.specs.declared.raw.RawParam.{RawParam}
-use Rattle.hir_raw.specs.declared.raw.RawAt.TheVariants as stands
-use Rattle.hir_raw.specs.declared.raw.RawVis.TheVariants as visible
-use Rattle.hir_raw.specs.declared.raw.RawFn.{RawFn}
-use Rattle.hir_raw.specs.declared.raw.RawBody.{RawBody}
-use Rattle.hir_raw.specs.declared.raw.RawFacts.{RawFacts}
-use Rattle.hir_raw.specs.declared.schedule.Schedule.{Schedule}
-use Rattle.hir_types.specs.Erasure.{IsClosed, Same}
-use Rattle.hir_types.proofs.Layers.{has_hole_tuple, has_hole_bool, has_hole_error, has_hole_integer}
-use Rattle.hir_facts.specs.CarriedTypes.{carried_bool, carried_integer, carried_tuple, same_carried}
-use Rattle.hir_raw.specs.WrittenTypes.{written_type}
-use Rattle.hir_facts.specs.Filled.{is_hole}
-use Rattle.hir_raw.specs.Scope.{Scope, types_scope}
-use Rattle.hir_raw.specs.Order.{Role, Part, expr_part, Node, the_body, inner, IsNode, IsSchedule, start, parts, part_at}
-use Rattle.hir_raw.proofs.Ways.{one_place}
-use Rattle.infer_result.specs.declared.result.InferenceResult.{InferenceResult}
-use Rattle.infer_result.specs.declared.diagnostics.InferenceDiagnostic.{InferenceDiagnostic}
+use Rattle.infer_result.specs.Words.hir_raw.declared.raw.RawLiteral.TheVariants as literal
+use Rattle.infer_result.specs.Words.hir_raw.declared.raw.BindingAnnotation.TheVariants as annotation
+use Rattle.infer_result.specs.Words.hir_raw.declared.raw.Edition.TheVariants as edition
+use Rattle.infer_result.specs.Words.hir_raw.declared.raw.RawType.TheVariants as type
+use Rattle.infer_result.specs.Words.hir_raw.declared.raw.RawAt.TheVariants as stands
+use Rattle.infer_result.specs.Words.hir_raw.declared.raw.RawVis.TheVariants as visible
+use Rattle.infer_result.proofs.Words.{has_hole_tuple, has_hole_bool, has_hole_error, has_hole_integer, one_place}
+use Rattle.infer_result.specs.Own.{InferenceResult, InferenceDiagnostic, At, HasTy, PatTy, AnyMismatch, OnlyCtorPatsHaveItems, Given, let_types, AreRecorded, OnlyPlaceholdersHaveTypes, StandsAt, PatIsAtOrMismatch, IsInput, Gives, Incoming, IsBefore, IsOfOther, Asks, IsAsked, Demand, IsOfBranch}
 use Rattle.infer_result.specs.declared.diagnostics.InferenceDiagnostic.TheVariants as diagnostic
-use Rattle.infer_result.specs.Table.{At, HasTy, PatTy, AnyMismatch}
-use Rattle.infer_result.specs.Closed.{OnlyCtorPatsHaveItems}
-use Rattle.infer_result.specs.Places.{Given, let_types, AreRecorded, OnlyPlaceholdersHaveTypes, StandsAt, PatIsAtOrMismatch}
-use Rattle.infer_result.specs.Incoming.{IsInput, Gives, Incoming}
-use Rattle.infer_result.specs.Kinds.Alternative.{IsBefore, IsOfOther}
-use Rattle.infer_result.specs.Demands.{Asks, IsAsked, Demand}
-use Rattle.infer_result.specs.Kinds.If.{IsOfBranch}
 
 abbrev pub e : ℕ → ExprId
 e n = record { 0 = n }

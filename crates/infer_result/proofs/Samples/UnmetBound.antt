@@ -2,29 +2,16 @@
 use Rattle.std.proofs.Common.{◌≡◌, inl, inr, List, [], ◌∷◌, map, refl, sym, ap, subst, ◌∙◌, Some, None, slice_get}
 use Rattle.std.specs.Prelude.{true}
 use Rattle.hir_types.specs.declared.ids.CallableDefId.TheVariants as callable
-use Rattle.hir_types.specs.declared.ids.DefWithBodyId.{DefWithBodyId}
+use Rattle.infer_result.specs.Words.{DefWithBodyId, Goal, Ty, Ty-F, out-Ty, out-roll-Ty, leaf, pair, type_part, arg_term, term_bool, arg_term_type, RawGoal, RawLiteral, type_args, Asked, goal_at, asked_goal}
 use Rattle.hir_types.specs.declared.ids.ExprOrPatId.TheVariants as node
 use Rattle.hir_types.specs.declared.head.Head.TheVariants as head
-use Rattle.hir_types.specs.declared.goal.Goal.{Goal}
 use Rattle.hir_types.specs.declared.ty.GenericArg.TheVariants as arg
-use Rattle.hir_types.specs.declared.ty.Ty.{Ty, Ty-F, out-Ty, out-roll-Ty}
 use Rattle.hir_types.specs.declared.ty.Ty.TheVariants as ty
-use Rattle.hir_types.specs.Terms.{leaf, pair, type_part, arg_term}
-use Rattle.hir_types.specs.TermLaws.{term_bool, arg_term_type}
-use Rattle.hir_raw.specs.declared.raw.RawArgs.TheVariants as args
-use Rattle.hir_raw.specs.declared.raw.RawGoal.{RawGoal}
-use Rattle.hir_raw.specs.declared.raw.RawGoal.TheVariants as goal
-use Rattle.hir_raw.specs.declared.raw.RawLiteral.{RawLiteral}
-use Rattle.hir_raw.specs.declared.raw.RawLiteral.TheVariants as literal
-use Rattle.hir_raw.specs.Signatures.{type_args}
-use Rattle.goal_answers.specs.Goals.{Asked}
-use Rattle.goal_facts.specs.Arguments.{goal_at}
-use Rattle.goal_facts.specs.Goals.{asked_goal}
-use Rattle.infer_result.specs.declared.gaps.Gap.{Gap}
+use Rattle.infer_result.specs.Words.hir_raw.declared.raw.RawArgs.TheVariants as args
+use Rattle.infer_result.specs.Words.hir_raw.declared.raw.RawGoal.TheVariants as goal
+use Rattle.infer_result.specs.Words.hir_raw.declared.raw.RawLiteral.TheVariants as literal
+use Rattle.infer_result.specs.Own.{Gap, InferenceResult, Given, item_args, IsNeeded, HoldsUnknown, GoalsHold}
 use Rattle.infer_result.specs.declared.gaps.Gap.TheVariants as gap
-use Rattle.infer_result.specs.declared.result.InferenceResult.{InferenceResult}
-use Rattle.infer_result.specs.Places.{Given}
-use Rattle.infer_result.specs.Needs.{item_args, IsNeeded, HoldsUnknown, GoalsHold}
 use Rattle.infer_result.proofs.Samples.Small.{e, w}
 use Rattle.infer_result.proofs.Samples.Calling.{function, calling, item}
 use Rattle.infer_result.proofs.Samples.Call.{types, id, at_type}

@@ -1,26 +1,11 @@
 -- `fn f() -> (u8, bool) { (1u8, 2u8) }`: the tuple has the expected components, and the mismatch stands at the second part.
 use Rattle.std.proofs.Common.{◌+◌, ◌<◌, ◌≡◌, inl, inr, List, [], ◌∷◌, refl, sym, ap, subst, ◌∙◌, arith, Option, Some, None, slice_get}
 use Rattle.hir_types.specs.declared.ids.ExprOrPatId.TheVariants as node
-use Rattle.hir_types.specs.declared.ty.Ty.{Ty}
+use Rattle.infer_result.specs.Words.{Ty, RawBody, Schedule, erased, IsClosed, element, the_body, inner, IsSchedule, start, end, after, Fits, parts}
 use Rattle.hir_types.specs.declared.ty.Ty.TheVariants as ty
-use Rattle.hir_raw.specs.declared.raw.RawExpr.TheVariants as expr
-use Rattle.hir_raw.specs.declared.raw.RawBody.{RawBody}
-use Rattle.hir_raw.specs.declared.schedule.Schedule.{Schedule}
-use Rattle.hir_types.specs.Erasure.{erased, IsClosed}
-use Rattle.hir_types.proofs.Layers.{has_hole_tuple}
-use Rattle.hir_raw.specs.Order.{element, the_body, inner, IsSchedule, start, end, after, Fits, parts}
-use Rattle.infer_result.specs.declared.result.InferenceResult.{InferenceResult}
-use Rattle.infer_result.specs.declared.result.TypeMismatch.{TypeMismatch}
-use Rattle.infer_result.specs.Closed.{NamesVariant, IsVariantPat}
-use Rattle.infer_result.specs.Table.{mismatch}
-use Rattle.infer_result.specs.Places.{Given, IsAtOrMismatch}
-use Rattle.infer_result.specs.Demands.{Demand}
-use Rattle.infer_result.specs.Rules.{ObeysOrMismatch}
-use Rattle.infer_result.specs.Kinds.Tuple.{AllAt}
-use Rattle.infer_result.specs.Truth.Mismatch.{IsTruePatMismatch}
-use Rattle.infer_result.specs.Truth.Diagnostics.{IsTrueDiagnostic, IsTruePatDiagnostic}
-use Rattle.infer_result.specs.Made.{IsMisfit, IsMade}
-use Rattle.infer_result.specs.Typed.{IsTyped}
+use Rattle.infer_result.specs.Words.hir_raw.declared.raw.RawExpr.TheVariants as expr
+use Rattle.infer_result.proofs.Words.{has_hole_tuple}
+use Rattle.infer_result.specs.Own.{InferenceResult, TypeMismatch, NamesVariant, IsVariantPat, mismatch, Given, IsAtOrMismatch, Demand, ObeysOrMismatch, AllAt, IsTruePatMismatch, IsTrueDiagnostic, IsTruePatDiagnostic, IsMisfit, IsMade, IsTyped}
 use Rattle.infer_result.proofs.Derived.{tuple_parts, typed_by_schedule}
 use Rattle.infer_result.proofs.Samples.Small.{scope_with, e, u8, one_u8, body_of, each_below, each_node, apart_by, asked, only, each_entry, each_found, each_placed, closed_u8, closed_bool, u8_is_no_bool, u8_differs_bool, none_placed, no_pat_items}
 

@@ -1,47 +1,22 @@
 -- `fn f(o: Pair) { let Pair(x) = o; }` where `struct Pair(u8, bool);`: the complaint stands at the pattern, and the part that is
 -- there has the type of its field.
 use Rattle.std.proofs.Common.{ℕ, ◌+◌, ◌<◌, ◌≡◌, inl, inr, List, [], ◌∷◌, length, refl, sym, ap, subst, ◌∙◌, arith, Option, Some, None, slice_get}
-use Rattle.hir_types.specs.declared.ids.ExprId.{ExprId}
-use Rattle.hir_types.specs.declared.ids.ExprOrPatId.{ExprOrPatId}
+use Rattle.infer_result.specs.Words.{ExprId, ExprOrPatId, Ty, RawType, RawVariant, RawBody, Schedule, unit, IsClosed, with_params, replaced_uint, filled_within, written_type, at_args, subpattern, the_body, inner, IsSchedule, start, end, after, Fits, parts}
 use Rattle.hir_types.specs.declared.ids.ExprOrPatId.TheVariants as node
-use Rattle.hir_types.specs.declared.ty.Ty.{Ty}
 use Rattle.hir_types.specs.declared.ty.Ty.TheVariants as ty
 use Rattle.hir_types.specs.declared.ty.UintTy.TheVariants as uint
 use Rattle.hir_types.specs.declared.ty.IntegerTy.TheVariants as integer
-use Rattle.hir_raw.specs.declared.raw.RawType.{RawType}
-use Rattle.hir_raw.specs.declared.raw.RawType.TheVariants as type
-use Rattle.hir_raw.specs.declared.raw.RawAdtKind.TheVariants as kind
-use Rattle.hir_raw.specs.declared.raw.RawCtor.TheVariants as ctor
-use Rattle.hir_raw.specs.declared.raw.RawVariant.{RawVariant}
-use Rattle.hir_raw.specs.declared.raw.RawStmt.TheVariants as stmt
-use Rattle.hir_raw.specs.declared.raw.RawPath.TheVariants as path
-use Rattle.hir_raw.specs.declared.raw.RawExpr.TheVariants as expr
-use Rattle.hir_raw.specs.declared.raw.RawPat.TheVariants as pat
-use Rattle.hir_raw.specs.declared.raw.RawBody.{RawBody}
-use Rattle.hir_raw.specs.declared.schedule.Schedule.{Schedule}
-use Rattle.hir_types.specs.Types.{unit}
-use Rattle.hir_types.specs.Erasure.{IsClosed}
-use Rattle.hir_types.proofs.Layers.{has_hole_adt}
-use Rattle.hir_types.specs.Assigned.{with_params}
-use Rattle.hir_types.specs.Replacements.{replaced_uint}
-use Rattle.hir_raw.specs.WrittenTypes.{filled_within, written_type}
-use Rattle.hir_raw.specs.Signatures.{at_args}
-use Rattle.hir_raw.specs.Order.{subpattern, the_body, inner, IsSchedule, start, end, after, Fits, parts}
-use Rattle.infer_result.specs.declared.result.InferenceResult.{InferenceResult}
-use Rattle.infer_result.specs.declared.diagnostics.InferenceDiagnostic.{InferenceDiagnostic}
+use Rattle.infer_result.specs.Words.hir_raw.declared.raw.RawType.TheVariants as type
+use Rattle.infer_result.specs.Words.hir_raw.declared.raw.RawAdtKind.TheVariants as kind
+use Rattle.infer_result.specs.Words.hir_raw.declared.raw.RawCtor.TheVariants as ctor
+use Rattle.infer_result.specs.Words.hir_raw.declared.raw.RawStmt.TheVariants as stmt
+use Rattle.infer_result.specs.Words.hir_raw.declared.raw.RawPath.TheVariants as path
+use Rattle.infer_result.specs.Words.hir_raw.declared.raw.RawExpr.TheVariants as expr
+use Rattle.infer_result.specs.Words.hir_raw.declared.raw.RawPat.TheVariants as pat
+use Rattle.infer_result.proofs.Words.{has_hole_adt}
+use Rattle.infer_result.specs.Own.{InferenceResult, InferenceDiagnostic, PatTy, BindingTy, Given, IsVariantAt, IsCtorAt, IsPatOf, Demand, ObeysOrMismatch, PatRule, IsTruePatMismatch, IsTrueDiagnostic, IsTruePatDiagnostic, IsBinder, NamesVariant, IsVariantPat, IsMisfit, IsMade, IsTyped}
 use Rattle.infer_result.specs.declared.diagnostics.InferenceDiagnostic.TheVariants as diagnostic
 use Rattle.infer_result.specs.declared.modes.BindingMode.TheVariants as mode
-use Rattle.infer_result.specs.Table.{PatTy, BindingTy}
-use Rattle.infer_result.specs.Places.{Given}
-use Rattle.infer_result.specs.Kinds.Constructor.{IsVariantAt, IsCtorAt}
-use Rattle.infer_result.specs.Pats.Constructor.{IsPatOf}
-use Rattle.infer_result.specs.Demands.{Demand}
-use Rattle.infer_result.specs.Rules.{ObeysOrMismatch, PatRule}
-use Rattle.infer_result.specs.Truth.Mismatch.{IsTruePatMismatch}
-use Rattle.infer_result.specs.Truth.Diagnostics.{IsTrueDiagnostic, IsTruePatDiagnostic}
-use Rattle.infer_result.specs.Closed.{IsBinder, NamesVariant, IsVariantPat}
-use Rattle.infer_result.specs.Made.{IsMisfit, IsMade}
-use Rattle.infer_result.specs.Typed.{IsTyped}
 use Rattle.infer_result.proofs.Derived.{typed_by_schedule}
 use Rattle.infer_result.proofs.Samples.Small.{e, p, b, w, u8, plain, body_with, each_below, each_node, apart_by, one_param, only, each_entry, each_found, each_placed, closed_u8, closed_unit, none_placed, no_pat_items}
 use Rattle.infer_result.proofs.Samples.Constructors.{v, adt, adt_of, variant_of, scope_of_adt}

@@ -1,38 +1,18 @@
 -- `fn f(t: (u8,)) { let (a, b): (u8,) = t; }`: the pattern has a part too many, and the mismatch stands at it.
 use Rattle.std.proofs.Common.{◌+◌, ◌<◌, ◌≡◌, inl, inr, List, [], ◌∷◌, refl, sym, subst, ◌∙◌, arith, Option, Some, None, slice_get}
 use Rattle.hir_types.specs.declared.ids.ExprOrPatId.TheVariants as node
-use Rattle.hir_types.specs.declared.ty.Ty.{Ty}
+use Rattle.infer_result.specs.Words.{Ty, RawType, RawBody, Schedule, unit, IsCarriedType, carried_integer, carried_error, carried_tuple, same_carried, filled_within, written_type, Same, IsClosed, let_pattern, subpattern, the_body, inner, IsSchedule, start, end, after, Fits, parts}
 use Rattle.hir_types.specs.declared.ty.Ty.TheVariants as ty
 use Rattle.hir_types.specs.declared.ty.UintTy.TheVariants as uint
 use Rattle.hir_types.specs.declared.ty.IntegerTy.TheVariants as integer
-use Rattle.hir_raw.specs.declared.raw.RawType.{RawType}
-use Rattle.hir_raw.specs.declared.raw.RawType.TheVariants as type
-use Rattle.hir_raw.specs.declared.raw.RawStmt.TheVariants as stmt
-use Rattle.hir_raw.specs.declared.raw.RawPath.TheVariants as path
-use Rattle.hir_raw.specs.declared.raw.RawExpr.TheVariants as expr
-use Rattle.hir_raw.specs.declared.raw.RawPat.TheVariants as pat
-use Rattle.hir_raw.specs.declared.raw.RawBody.{RawBody}
-use Rattle.hir_raw.specs.declared.schedule.Schedule.{Schedule}
-use Rattle.hir_types.specs.Types.{unit}
-use Rattle.hir_facts.specs.CarriedTypes.{IsCarriedType, carried_integer, carried_error, carried_tuple, same_carried}
-use Rattle.hir_raw.specs.WrittenTypes.{filled_within, written_type}
-use Rattle.hir_types.specs.Erasure.{Same, IsClosed}
-use Rattle.hir_types.proofs.Layers.{has_hole_tuple}
-use Rattle.hir_raw.specs.Order.{let_pattern, subpattern, the_body, inner, IsSchedule, start, end, after, Fits, parts}
-use Rattle.infer_result.specs.declared.result.InferenceResult.{InferenceResult}
-use Rattle.infer_result.specs.declared.result.TypeMismatch.{TypeMismatch}
+use Rattle.infer_result.specs.Words.hir_raw.declared.raw.RawType.TheVariants as type
+use Rattle.infer_result.specs.Words.hir_raw.declared.raw.RawStmt.TheVariants as stmt
+use Rattle.infer_result.specs.Words.hir_raw.declared.raw.RawPath.TheVariants as path
+use Rattle.infer_result.specs.Words.hir_raw.declared.raw.RawExpr.TheVariants as expr
+use Rattle.infer_result.specs.Words.hir_raw.declared.raw.RawPat.TheVariants as pat
+use Rattle.infer_result.proofs.Words.{has_hole_tuple}
+use Rattle.infer_result.specs.Own.{InferenceResult, TypeMismatch, PatTy, BindingTy, mismatch, Given, declared, Incoming, Demand, ObeysOrMismatch, PatRule, AllPatsAt, IsTruePatMismatch, IsTrueDiagnostic, IsTruePatDiagnostic, IsBinder, NamesVariant, IsVariantPat, IsMisfit, IsMade, IsTyped}
 use Rattle.infer_result.specs.declared.modes.BindingMode.TheVariants as mode
-use Rattle.infer_result.specs.Table.{PatTy, BindingTy, mismatch}
-use Rattle.infer_result.specs.Places.{Given, declared}
-use Rattle.infer_result.specs.Incoming.{Incoming}
-use Rattle.infer_result.specs.Demands.{Demand}
-use Rattle.infer_result.specs.Rules.{ObeysOrMismatch, PatRule}
-use Rattle.infer_result.specs.Pats.Tuple.{AllPatsAt}
-use Rattle.infer_result.specs.Truth.Mismatch.{IsTruePatMismatch}
-use Rattle.infer_result.specs.Truth.Diagnostics.{IsTrueDiagnostic, IsTruePatDiagnostic}
-use Rattle.infer_result.specs.Closed.{IsBinder, NamesVariant, IsVariantPat}
-use Rattle.infer_result.specs.Made.{IsMisfit, IsMade}
-use Rattle.infer_result.specs.Typed.{IsTyped}
 use Rattle.infer_result.proofs.Derived.{tuple_parts, typed_by_schedule}
 use Rattle.infer_result.proofs.Samples.Small.{scope_with, e, p, b, w, u8, plain, body_with, each_below, each_node, apart_by, comes, one_param, only, each_entry, each_found, each_placed, closed_u8, closed_unit, closed_error, u8_is_no_error, u8_is_no_tuple, none_placed, none_recorded, no_pat_items}
 

@@ -1,11 +1,8 @@
 -- The alternatives of an `if` and of a `match`, one of which gives the node its value: Reference, "Least
 -- upper bound coercions"; upstream `infer/coerce.rs`, `CoerceMany`.
 use Rattle.std.specs.Prelude.{ℕ, ◌<◌, ◌≡◌, ◌⊎◌, Some}
-use Rattle.hir_types.specs.declared.ids.ExprId.{ExprId}
-use Rattle.hir_types.specs.declared.ty.Ty.{Ty}
+use Rattle.infer_result.specs.Words.{ExprId, Ty, RawBody, Role, then_branch, else_branch, arm, expr_part, inner, part_at}
 use Rattle.hir_types.specs.declared.ids.ExprOrPatId.TheVariants as node
-use Rattle.hir_raw.specs.declared.raw.RawBody.{RawBody}
-use Rattle.hir_raw.specs.Order.{Role, then_branch, else_branch, arm, expr_part, inner, part_at}
 use Rattle.infer_result.specs.declared.result.InferenceResult.{InferenceResult}
 use Rattle.infer_result.specs.Table.{HasTy}
 use Rattle.infer_result.specs.Places.{Given}

@@ -1,16 +1,9 @@
 -- A block: its statements, and its tail at its type. Reference, "Block expressions", "Statements"; upstream
 -- `infer/expr.rs`, `infer_block`.
 use Rattle.std.specs.Prelude.{◌≡◌, ◌⊎◌, true, false, List, slice_get, Option, Some, None, [], ◌∷◌}
-use Rattle.hir_types.specs.declared.ids.ExprId.{ExprId}
-use Rattle.hir_types.specs.declared.ids.PatId.{PatId}
-use Rattle.hir_types.specs.declared.ids.TypeRefId.{TypeRefId}
-use Rattle.hir_types.specs.declared.ty.Ty.{Ty}
-use Rattle.hir_types.specs.Types.{unit}
-use Rattle.hir_types.specs.declared.ids.LabelId.{LabelId}
-use Rattle.hir_raw.specs.declared.raw.RawBody.{RawBody}
-use Rattle.hir_raw.specs.declared.raw.RawStmt.{RawStmt}
-use Rattle.hir_raw.specs.declared.raw.RawStmt.TheVariants as stmt
-use Rattle.hir_raw.specs.declared.raw.RawExpr.TheVariants as expr
+use Rattle.infer_result.specs.Words.{ExprId, PatId, TypeRefId, Ty, unit, LabelId, RawBody, RawStmt}
+use Rattle.infer_result.specs.Words.hir_raw.declared.raw.RawStmt.TheVariants as stmt
+use Rattle.infer_result.specs.Words.hir_raw.declared.raw.RawExpr.TheVariants as expr
 use Rattle.infer_result.specs.declared.result.InferenceResult.{InferenceResult}
 use Rattle.infer_result.specs.Table.{HasTy, HasMismatch, MaybeMismatch}
 use Rattle.infer_result.specs.Places.{Given, declared, AreRecorded}

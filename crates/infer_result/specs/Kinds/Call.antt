@@ -1,19 +1,10 @@
 -- A call, which has the output of the item that it calls, and whose arguments stand at the inputs: Reference,
 -- "Call expressions"; upstream `infer/expr.rs`, `infer_call`.
 use Rattle.std.specs.Prelude.{ℕ, ◌≡◌, ◌⊎◌, true, false, List, length, map, slice_get, Some, [], Bool}
-use Rattle.hir_types.specs.declared.ids.ExprId.{ExprId}
-use Rattle.hir_types.specs.declared.ids.CallableDefId.{CallableDefId}
-use Rattle.hir_types.specs.declared.ty.Ty.{Ty, Ty-F, out-Ty}
-use Rattle.hir_types.specs.declared.ty.AliasBound.{AliasBound}
-use Rattle.hir_types.specs.declared.ty.GenericArg.{GenericArg}
-use Rattle.hir_types.specs.declared.ty.TraitRef.{TraitRef}
+use Rattle.infer_result.specs.Words.{ExprId, CallableDefId, Ty, Ty-F, out-Ty, AliasBound, GenericArg, TraitRef, Signature, signature_of, type_args, at_args, Node, inner, RawPath, names_item}
 use Rattle.hir_types.specs.declared.ids.ExprOrPatId.TheVariants as node
 use Rattle.hir_types.specs.declared.ty.Ty.TheVariants as ty
-use Rattle.hir_raw.specs.Signatures.{Signature, signature_of, type_args, at_args}
-use Rattle.hir_raw.specs.Order.{Node, inner}
-use Rattle.hir_raw.specs.declared.raw.RawPath.{RawPath}
-use Rattle.hir_raw.specs.Scope.{names_item}
-use Rattle.hir_raw.specs.declared.raw.RawExpr.TheVariants as expr
+use Rattle.infer_result.specs.Words.hir_raw.declared.raw.RawExpr.TheVariants as expr
 use Rattle.infer_result.specs.declared.result.InferenceResult.{InferenceResult}
 use Rattle.infer_result.specs.declared.result.Seen.{Seen}
 use Rattle.infer_result.specs.declared.diagnostics.InferenceDiagnostic.TheVariants as diagnostic

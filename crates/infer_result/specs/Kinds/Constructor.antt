@@ -2,12 +2,8 @@
 -- `infer/path.rs`.
 use Rattle.std.specs.Prelude.{ℕ, ◌≡◌, List, length, map, slice_get, Some}
 use Rattle.hir_types.specs.declared.ids.CallableDefId.TheVariants as callable
-use Rattle.hir_types.specs.declared.ids.VariantId.{VariantId}
-use Rattle.hir_types.specs.declared.ty.Ty.{Ty}
+use Rattle.infer_result.specs.Words.{VariantId, Ty, RawVariant, type_args, at_args, taken_types, ctor_type, adt_params, callable_params}
 use Rattle.hir_types.specs.declared.ty.Ty.TheVariants as ty
-use Rattle.hir_raw.specs.declared.raw.RawVariant.{RawVariant}
-use Rattle.hir_raw.specs.Signatures.{type_args, at_args, taken_types, ctor_type}
-use Rattle.hir_raw.specs.Scope.{adt_params, callable_params}
 use Rattle.infer_result.specs.Places.{Given}
 
 -- the variant, at as many types as its adt has parameters

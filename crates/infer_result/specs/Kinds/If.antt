@@ -1,12 +1,9 @@
 -- An `if`, whose branches stand at its type: Reference, "if expressions"; upstream `infer/expr.rs`,
 -- `Expr::If`.
 use Rattle.std.specs.Prelude.{◌≡◌, List, slice_get, Option, Some, None, [], ◌∷◌}
-use Rattle.hir_types.specs.declared.ids.ExprId.{ExprId}
-use Rattle.hir_types.specs.declared.ty.Ty.{Ty}
+use Rattle.infer_result.specs.Words.{ExprId, Ty, RawBody, condition}
 use Rattle.hir_types.specs.declared.ty.Ty.TheVariants as ty
-use Rattle.hir_raw.specs.declared.raw.RawBody.{RawBody}
-use Rattle.hir_raw.specs.Order.{condition}
-use Rattle.hir_raw.specs.declared.raw.RawExpr.TheVariants as expr
+use Rattle.infer_result.specs.Words.hir_raw.declared.raw.RawExpr.TheVariants as expr
 use Rattle.infer_result.specs.declared.result.InferenceResult.{InferenceResult}
 use Rattle.infer_result.specs.Table.{HasTy}
 use Rattle.infer_result.specs.Placing.{Placing}

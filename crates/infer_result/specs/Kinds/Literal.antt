@@ -1,11 +1,8 @@
 -- A literal: Reference, "Literal expressions"; upstream `infer/expr.rs`, `infer_literal`.
 use Rattle.std.specs.Prelude.{◌≡◌, Some, None}
-use Rattle.hir_types.specs.declared.ty.Ty.{Ty}
-use Rattle.hir_types.specs.declared.ty.IntegerTy.{IntegerTy}
-use Rattle.hir_types.specs.Types.{integer_type}
+use Rattle.infer_result.specs.Words.{Ty, IntegerTy, integer_type, RawLiteral}
 use Rattle.hir_types.specs.declared.ty.Ty.TheVariants as ty
-use Rattle.hir_raw.specs.declared.raw.RawLiteral.{RawLiteral}
-use Rattle.hir_raw.specs.declared.raw.RawLiteral.TheVariants as literal
+use Rattle.infer_result.specs.Words.hir_raw.declared.raw.RawLiteral.TheVariants as literal
 
 -- ---- its rule
 

@@ -1,10 +1,8 @@
 -- A `match`, whose arms stand at its type: Reference, "match expressions"; upstream `infer/expr.rs`,
 -- `Expr::Match`.
 use Rattle.std.specs.Prelude.{◌⊎◌, List, Option, Some, None, [], ◌∷◌}
-use Rattle.hir_types.specs.declared.ids.ExprId.{ExprId}
-use Rattle.hir_types.specs.declared.ty.Ty.{Ty}
+use Rattle.infer_result.specs.Words.{ExprId, Ty, RawArm}
 use Rattle.hir_types.specs.declared.ty.Ty.TheVariants as ty
-use Rattle.hir_raw.specs.declared.raw.RawArm.{RawArm}
 use Rattle.infer_result.specs.declared.result.InferenceResult.{InferenceResult}
 use Rattle.infer_result.specs.Table.{HasTy, MaybeMismatch}
 use Rattle.infer_result.specs.Placing.{Placing}

@@ -1,8 +1,7 @@
 -- A tuple, whose parts stand at the types of its components: Reference, "Tuple expressions"; upstream
 -- `infer/expr.rs`, `Expr::Tuple`.
 use Rattle.std.specs.Prelude.{List, [], ◌∷◌}
-use Rattle.hir_types.specs.declared.ids.ExprId.{ExprId}
-use Rattle.hir_types.specs.declared.ty.Ty.{Ty}
+use Rattle.infer_result.specs.Words.{ExprId, Ty}
 use Rattle.hir_types.specs.declared.ty.Ty.TheVariants as ty
 use Rattle.infer_result.specs.declared.result.InferenceResult.{InferenceResult}
 use Rattle.infer_result.specs.Table.{HasTy}

@@ -1,7 +1,6 @@
 -- When a complaint other than a mismatch is true.
 use Rattle.std.specs.Prelude.{◌≡◌}
-use Rattle.hir_types.specs.declared.ids.ExprId.{ExprId}
-use Rattle.hir_types.specs.declared.ids.PatId.{PatId}
+use Rattle.infer_result.specs.Words.{ExprId, PatId}
 use Rattle.hir_types.specs.declared.ids.ExprOrPatId.TheVariants as node
 use Rattle.infer_result.specs.declared.result.InferenceResult.{InferenceResult}
 use Rattle.infer_result.specs.declared.diagnostics.InferenceDiagnostic.{InferenceDiagnostic}

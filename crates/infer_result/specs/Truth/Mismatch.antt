@@ -1,13 +1,7 @@
 -- When a mismatch is true.
 use Rattle.std.specs.Prelude.{◌≡◌, ◌⊎◌, slice_get, Option, Some}
-use Rattle.hir_types.specs.declared.ids.ExprId.{ExprId}
-use Rattle.hir_types.specs.declared.ids.PatId.{PatId}
-use Rattle.hir_types.specs.declared.ty.Ty.{Ty}
-use Rattle.hir_types.specs.Types.{unit}
-use Rattle.hir_types.specs.Erasure.{Same}
-use Rattle.hir_raw.specs.declared.raw.RawPat.{RawPat}
-use Rattle.hir_raw.specs.declared.raw.RawBody.{RawBody}
-use Rattle.hir_raw.specs.declared.raw.RawPat.TheVariants as pat
+use Rattle.infer_result.specs.Words.{ExprId, PatId, Ty, unit, Same, RawPat, RawBody}
+use Rattle.infer_result.specs.Words.hir_raw.declared.raw.RawPat.TheVariants as pat
 use Rattle.infer_result.specs.declared.result.InferenceResult.{InferenceResult}
 use Rattle.infer_result.specs.declared.result.TypeMismatch.{TypeMismatch}
 use Rattle.infer_result.specs.Table.{HasTy, PatTy}

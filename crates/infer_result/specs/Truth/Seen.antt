@@ -1,12 +1,8 @@
 -- When what is kept of a failed look-up is so: at a call, that what it calls is no function.
 use Rattle.std.specs.Prelude.{ℕ, ◌≡◌, false, List, slice_get, Some, None}
-use Rattle.hir_types.specs.declared.ids.ExprId.{ExprId}
-use Rattle.hir_types.specs.declared.ty.Ty.{Ty}
-use Rattle.hir_types.specs.declared.ty.IntegerTy.{IntegerTy}
-use Rattle.hir_types.specs.Types.{integer_type}
-use Rattle.hir_types.specs.Subst.{Assignment, folded}
+use Rattle.infer_result.specs.Words.{ExprId, Ty, IntegerTy, integer_type, Assignment, folded}
 use Rattle.hir_types.specs.declared.ids.ExprOrPatId.TheVariants as node
-use Rattle.hir_raw.specs.declared.raw.RawExpr.TheVariants as expr
+use Rattle.infer_result.specs.Words.hir_raw.declared.raw.RawExpr.TheVariants as expr
 use Rattle.infer_result.specs.declared.result.InferenceResult.{InferenceResult}
 use Rattle.infer_result.specs.declared.result.Seen.{Seen}
 use Rattle.infer_result.specs.Table.{HasTy}

@@ -1,5 +1,5 @@
 //! What is undone, and what stays.
-ghost use Rattle.infer_table.specs.Table.{Grew};
+ghost use Rattle.table_tests.specs.Words.{Grew};
 
 use super::{check_known, expr, pair, table_of, unify, wait};
 use hir_types::{HoleKind, Ty, UintTy};

@@ -1,5 +1,5 @@
 //! Pairs that wait.
-ghost use Rattle.infer_table.specs.Table.{Grew};
+ghost use Rattle.table_tests.specs.Words.{Grew};
 
 use super::{expr, table_of, unify, wait};
 use hir_types::{HoleKind, Ty};

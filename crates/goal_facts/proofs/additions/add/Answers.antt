@@ -1,6 +1,6 @@
 use Rattle.std.proofs.Common.{◌≡◌, ◌∷◌, [], true≢false, sym, ap, ◌∙◌, subst}
-use Rattle.goal_search.specs.Sources.{asked_of, asked_list}
-use Rattle.goal_facts.specs.Additions.{Has, Adds}
+use Rattle.goal_facts.specs.Words.{asked_of, asked_list}
+use Rattle.goal_facts.specs.Own.{Has, Adds}
 use Rattle.goal_facts.proofs.Adding.{adds_one}
 use Rattle.std.proofs.lemmas.List.{map-append}
 use Rattle.goal_facts.proofs.additions.add.Goals as goal

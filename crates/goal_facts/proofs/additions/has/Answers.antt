@@ -1,6 +1,6 @@
 use Rattle.std.proofs.Common.{◌≡◌, true≢false, sym}
-use Rattle.goal_answers.proofs.Upto.{each_all}
-use Rattle.goal_search.specs.Sources.{asked_of}
+use Rattle.goal_facts.proofs.Words.{each_all}
+use Rattle.goal_facts.specs.Words.{asked_of}
 use Rattle.goal_facts.proofs.Adding.{get_in_map}
 use Rattle.goal_facts.proofs.Systems.{each_get}
 use Rattle.goal_facts.proofs.additions.has.Goals as goal

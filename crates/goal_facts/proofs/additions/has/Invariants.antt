@@ -1,6 +1,5 @@
 use Rattle.std.proofs.Common.{◌≡◌, take}
-use Rattle.goal_answers.specs.Goals.{Each}
-use Rattle.goal_search.specs.Sources.{asked_of}
+use Rattle.goal_facts.specs.Words.{Each, asked_of}
 use Rattle.goal_facts.proofs.additions.has.Given as goal
 
 -- none before is the goal

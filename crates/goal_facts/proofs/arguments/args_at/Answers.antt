@@ -1,7 +1,6 @@
 use Rattle.std.proofs.Common.{◌≡◌, sym, subst, map}
 use Rattle.std.proofs.lemmas.Result.{IfOk-weaker}
-use Rattle.hir_types.specs.Terms.{chain, arg_term}
-use Rattle.goal_terms.specs.Terms.{term_of, IsHead}
+use Rattle.goal_facts.specs.Words.{chain, arg_term, term_of, IsHead}
 use Rattle.goal_facts.proofs.Arguing.{list_is_head}
 use Rattle.goal_facts.proofs.arguments.args_at.Goals as goal
 

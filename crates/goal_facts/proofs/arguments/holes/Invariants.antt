@@ -1,5 +1,5 @@
 use Rattle.std.proofs.Common.{◌≡◌}
-use Rattle.goal_facts.specs.Arguments.{holes}
+use Rattle.goal_facts.specs.Own.{holes}
 use Rattle.goal_facts.proofs.arguments.holes.Given as goal
 
 abbrev pub invariant-loop-number : goal.invariant-loop-number

@@ -1,7 +1,7 @@
 use Rattle.std.proofs.Common.{rules, ◌≡◌, sym, ap, ◌∙◌, ◌++◌, [], ◌∷◌}
 use Rattle.hir_types.specs.declared.ty.Ty.TheVariants as ty
 use Rattle.hir_types.specs.declared.ty.GenericArg.TheVariants as arg
-use Rattle.goal_facts.specs.Arguments.{own_params}
+use Rattle.goal_facts.specs.Own.{own_params}
 use Rattle.goal_facts.proofs.Arguing.{counted_more}
 use Rattle.goal_facts.proofs.arguments.own_params.Goals as goal
 

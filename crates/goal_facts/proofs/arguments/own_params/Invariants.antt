@@ -1,5 +1,5 @@
 use Rattle.std.proofs.Common.{◌≡◌}
-use Rattle.goal_facts.specs.Arguments.{own_params}
+use Rattle.goal_facts.specs.Own.{own_params}
 use Rattle.goal_facts.proofs.arguments.own_params.Given as goal
 
 abbrev pub invariant-loop-number : goal.invariant-loop-number

@@ -1,5 +1,5 @@
 use Rattle.std.proofs.Common.{◌≡◌, ◌++◌, take}
-use Rattle.goal_facts.specs.Arguments.{instances}
+use Rattle.goal_facts.specs.Own.{instances}
 use Rattle.goal_facts.proofs.arguments.push_instances.Given as goal
 
 abbrev pub invariant-loop-ty : goal.invariant-loop-ty

@@ -1,9 +1,8 @@
 use Rattle.std.proofs.Common.{subst}
 use Rattle.std.specs.Prelude.{option_map}
 use Rattle.std.proofs.lemmas.Result.{on_ok_weaker}
-use Rattle.goal_search.specs.Sources.{asked_of, asked_list}
-use Rattle.goal_facts.specs.Bounds.{BoundSays}
-use Rattle.goal_facts.specs.Levels.{BoundSaysIf}
+use Rattle.goal_facts.specs.Words.{asked_of, asked_list}
+use Rattle.goal_facts.specs.Own.{BoundSays, BoundSaysIf}
 use Rattle.goal_facts.proofs.Adding.{adds_said, adds_nothing}
 use Rattle.goal_facts.proofs.Arguing.{bound_one}
 use Rattle.goal_facts.proofs.bounds.add_bound.Goals as goal

@@ -1,5 +1,5 @@
-use Rattle.goal_search.specs.Sources.{asked_list}
-use Rattle.goal_facts.specs.Bounds.{BoundSays}
+use Rattle.goal_facts.specs.Words.{asked_list}
+use Rattle.goal_facts.specs.Own.{BoundSays}
 use Rattle.goal_facts.proofs.Adding.{before_next, before_all}
 use Rattle.goal_facts.proofs.bounds.add_bounds.Goals as goal
 

@@ -1,6 +1,5 @@
-use Rattle.goal_search.specs.Sources.{asked_list}
-use Rattle.goal_facts.specs.Additions.{Adds, SomeSaysBefore}
-use Rattle.goal_facts.specs.Bounds.{BoundSays}
+use Rattle.goal_facts.specs.Words.{asked_list}
+use Rattle.goal_facts.specs.Own.{Adds, SomeSaysBefore, BoundSays}
 use Rattle.goal_facts.proofs.bounds.add_bounds.Given as goal
 
 abbrev pub invariant-loop-bound : goal.invariant-loop-bound

@@ -1,10 +1,7 @@
 use Rattle.std.proofs.Common.{rules, ◌≡◌, ◌∙◌, ap, subst}
-use Rattle.goal_search.specs.Sources.{asked_list}
+use Rattle.goal_facts.specs.Words.{asked_list}
 use Rattle.std.specs.Prelude.{[]}
-use Rattle.goal_facts.specs.Additions.{Adds, SomeSays}
-use Rattle.goal_facts.specs.Arguments.{holes}
-use Rattle.goal_facts.specs.Environment.{trait_holes}
-use Rattle.goal_facts.specs.Bounds.{AliasLists}
+use Rattle.goal_facts.specs.Own.{Adds, SomeSays, holes, trait_holes, AliasLists}
 use Rattle.goal_facts.proofs.Adding.{before_next, before_all}
 use Rattle.goal_facts.proofs.Systems.{alias_lists}
 use Rattle.goal_facts.proofs.bounds.listed.Goals as goal

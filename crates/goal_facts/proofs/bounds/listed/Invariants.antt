@@ -1,7 +1,6 @@
 use Rattle.std.specs.Prelude.{[]}
-use Rattle.goal_search.specs.Sources.{asked_list}
-use Rattle.goal_facts.specs.Additions.{Adds, SomeSaysBefore}
-use Rattle.goal_facts.specs.Bounds.{AliasLists}
+use Rattle.goal_facts.specs.Words.{asked_list}
+use Rattle.goal_facts.specs.Own.{Adds, SomeSaysBefore, AliasLists}
 use Rattle.goal_facts.proofs.bounds.listed.Given as goal
 
 abbrev pub invariant-loop-place : goal.invariant-loop-place

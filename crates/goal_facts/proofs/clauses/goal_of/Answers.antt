@@ -1,5 +1,5 @@
 use Rattle.std.proofs.Common.{ap}
-use Rattle.goal_search.specs.Sources.{kind_of, asked_of}
+use Rattle.goal_facts.specs.Words.{kind_of, asked_of}
 use Rattle.goal_facts.proofs.Typed.{trait_asks, projection_asks}
 use Rattle.goal_facts.proofs.clauses.goal_of.Goals as goal
 

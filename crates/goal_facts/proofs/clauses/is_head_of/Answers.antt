@@ -1,6 +1,6 @@
 use Rattle.std.proofs.Common.{◌≡◌, true≢false, refl, sym}
-use Rattle.goal_answers.proofs.Upto.{some_at, each_all, some_of_map, some_in_map, none_of}
-use Rattle.goal_search.specs.Sources.{asked_of, rule_of}
+use Rattle.goal_facts.proofs.Words.{some_at, each_all, some_of_map, some_in_map, none_of}
+use Rattle.goal_facts.specs.Words.{asked_of, rule_of}
 use Rattle.goal_facts.proofs.clauses.is_head_of.Goals as goal
 
 pub returns-then-is_same : goal.returns-then-is_same

@@ -1,8 +1,7 @@
 use Rattle.std.proofs.Common.{◌≡◌, subst, arith}
 use Rattle.std.proofs.lemmas.List.{length-map}
-use Rattle.goal_search.specs.Sources.{asked_of, asked_list}
-use Rattle.goal_facts.specs.Additions.{Adds}
-use Rattle.goal_facts.specs.Levels.{SomeSuper}
+use Rattle.goal_facts.specs.Words.{asked_of, asked_list}
+use Rattle.goal_facts.specs.Own.{Adds, SomeSuper}
 use Rattle.goal_facts.proofs.Following.{no_shorter, entry_at, supers_next}
 use Rattle.goal_facts.proofs.closure.add_level.Goals as goal
 

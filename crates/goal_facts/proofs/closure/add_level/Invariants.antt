@@ -1,7 +1,6 @@
 use Rattle.std.proofs.Common.{◌≤◌}
-use Rattle.goal_search.specs.Sources.{asked_list}
-use Rattle.goal_facts.specs.Additions.{Adds}
-use Rattle.goal_facts.specs.Levels.{SomeSuper}
+use Rattle.goal_facts.specs.Words.{asked_list}
+use Rattle.goal_facts.specs.Own.{Adds, SomeSuper}
 use Rattle.goal_facts.proofs.closure.add_level.Given as goal
 
 abbrev pub invariant-loop-place : goal.invariant-loop-place

@@ -1,6 +1,5 @@
-use Rattle.goal_terms.specs.Terms.{term_of}
-use Rattle.goal_search.specs.Sources.{asked_list}
-use Rattle.goal_facts.specs.Environment.{SaysAt}
+use Rattle.goal_facts.specs.Words.{term_of, asked_list}
+use Rattle.goal_facts.specs.Own.{SaysAt}
 use Rattle.goal_facts.proofs.Adding.{before_next, before_all}
 use Rattle.goal_facts.proofs.closure.add_said.Goals as goal
 

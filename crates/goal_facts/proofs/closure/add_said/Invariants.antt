@@ -1,7 +1,5 @@
-use Rattle.goal_terms.specs.Terms.{term_of}
-use Rattle.goal_search.specs.Sources.{asked_list}
-use Rattle.goal_facts.specs.Additions.{Adds, SomeSaysBefore}
-use Rattle.goal_facts.specs.Environment.{SaysAt}
+use Rattle.goal_facts.specs.Words.{term_of, asked_list}
+use Rattle.goal_facts.specs.Own.{Adds, SomeSaysBefore, SaysAt}
 use Rattle.goal_facts.proofs.closure.add_said.Given as goal
 
 abbrev pub invariant-loop-pred : goal.invariant-loop-pred

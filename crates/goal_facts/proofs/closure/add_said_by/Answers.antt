@@ -1,10 +1,8 @@
 use Rattle.std.proofs.Common.{subst}
 use Rattle.std.specs.Prelude.{option_map}
 use Rattle.std.proofs.lemmas.Result.{on_ok_weaker}
-use Rattle.goal_terms.specs.Terms.{term_of}
-use Rattle.goal_search.specs.Sources.{asked_of, asked_list}
-use Rattle.goal_facts.specs.Environment.{SaysAt}
-use Rattle.goal_facts.specs.Levels.{SaysIf}
+use Rattle.goal_facts.specs.Words.{term_of, asked_of, asked_list}
+use Rattle.goal_facts.specs.Own.{SaysAt, SaysIf}
 use Rattle.goal_facts.proofs.Adding.{adds_said, adds_nothing}
 use Rattle.goal_facts.proofs.Arguing.{says_one}
 use Rattle.goal_facts.proofs.closure.add_said_by.Goals as goal

@@ -1,9 +1,7 @@
 use Rattle.std.proofs.Common.{◌≡◌, ◌∙◌, ap}
 use Rattle.std.proofs.lemmas.Result.{on_ok_weaker}
-use Rattle.goal_terms.specs.Terms.{term_of}
-use Rattle.goal_search.specs.Sources.{kind_of, asked_list}
-use Rattle.goal_facts.specs.Arguments.{holes}
-use Rattle.goal_facts.specs.Environment.{trait_preds, trait_holes}
+use Rattle.goal_facts.specs.Words.{term_of, kind_of, asked_list}
+use Rattle.goal_facts.specs.Own.{holes, trait_preds, trait_holes}
 use Rattle.goal_facts.proofs.Following.{supers_said}
 use Rattle.goal_facts.proofs.closure.add_supers.Goals as goal
 

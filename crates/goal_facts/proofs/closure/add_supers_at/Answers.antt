@@ -2,11 +2,8 @@ use Rattle.std.proofs.Common.{◌≡◌, ◌∙◌, sym, subst}
 use Rattle.std.specs.Prelude.{slice_get, Some}
 use Rattle.std.proofs.lemmas.Option.{same_Some}
 use Rattle.std.proofs.lemmas.Result.{on_ok_weaker}
-use Rattle.goal_answers.specs.Goals.{Asked}
-use Rattle.goal_terms.specs.Terms.{term_of, HasHeads}
-use Rattle.goal_search.specs.Sources.{kind_of, asked_of, asked_list}
-use Rattle.goal_facts.specs.Environment.{IsSuper}
-use Rattle.goal_facts.specs.Additions.{Adds}
+use Rattle.goal_facts.specs.Words.{Asked, term_of, HasHeads, kind_of, asked_of, asked_list}
+use Rattle.goal_facts.specs.Own.{IsSuper, Adds}
 use Rattle.goal_facts.proofs.Adding.{get_here, get_mapped}
 use Rattle.goal_facts.proofs.closure.add_supers_at.Goals as goal
 

@@ -1,7 +1,7 @@
 use Rattle.std.proofs.Common.{◌≡◌, ◌+◌, suc, ◌∙◌, ap, sym, arith, length}
 use Rattle.std.proofs.lemmas.List.{length-map}
-use Rattle.goal_search.specs.Sources.{asked_of, asked_list}
-use Rattle.goal_facts.specs.Additions.{Has}
+use Rattle.goal_facts.specs.Words.{asked_of, asked_list}
+use Rattle.goal_facts.specs.Own.{Has}
 use Rattle.goal_facts.proofs.Following.{next_level}
 use Rattle.goal_facts.proofs.closure.close.Goals as goal
 

@@ -1,6 +1,5 @@
-use Rattle.goal_search.specs.Sources.{asked_list}
-use Rattle.goal_facts.specs.Additions.{Has}
-use Rattle.goal_facts.specs.Levels.{IsLevel}
+use Rattle.goal_facts.specs.Words.{asked_list}
+use Rattle.goal_facts.specs.Own.{Has, IsLevel}
 use Rattle.goal_facts.proofs.closure.close.Given as goal
 
 abbrev pub invariant-loop : goal.invariant-loop

@@ -1,7 +1,6 @@
 use Rattle.std.proofs.Common.{sym, subst}
 use Rattle.std.specs.Prelude.{Some, option_map}
-use Rattle.goal_terms.specs.Terms.{term_of, HasHeads}
-use Rattle.goal_search.specs.Parts.{IsFieldAt}
+use Rattle.goal_facts.specs.Words.{term_of, HasHeads, IsFieldAt}
 use Rattle.goal_facts.proofs.Arguing.{heads_at_args}
 use Rattle.goal_facts.proofs.closure.says_at.Goals as goal
 

@@ -1,6 +1,6 @@
 use Rattle.std.proofs.Common.{◌≡◌, ◌∙◌, sym}
-use Rattle.goal_search.specs.Sources.{asked_of, asked_list}
-use Rattle.goal_facts.specs.Arguments.{goal_at}
+use Rattle.goal_facts.specs.Words.{asked_of, asked_list}
+use Rattle.goal_facts.specs.Own.{goal_at}
 use Rattle.goal_facts.proofs.Adding.{adds_as, before_next, before_all}
 use Rattle.goal_facts.proofs.environment.add_goals.Goals as goal
 

@@ -1,7 +1,6 @@
 use Rattle.std.proofs.Common.{◌≡◌}
-use Rattle.goal_search.specs.Sources.{asked_list}
-use Rattle.goal_facts.specs.Arguments.{goal_at}
-use Rattle.goal_facts.specs.Additions.{Adds, SomeSaysBefore}
+use Rattle.goal_facts.specs.Words.{asked_list}
+use Rattle.goal_facts.specs.Own.{goal_at, Adds, SomeSaysBefore}
 use Rattle.goal_facts.proofs.environment.add_goals.Given as goal
 
 abbrev pub invariant-loop-goal : goal.invariant-loop-goal

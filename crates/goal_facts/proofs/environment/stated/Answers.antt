@@ -1,4 +1,4 @@
-use Rattle.goal_search.specs.Sources.{asked_list}
+use Rattle.goal_facts.specs.Words.{asked_list}
 use Rattle.std.proofs.Common.{ap}
 use Rattle.goal_facts.proofs.Systems.{stated_by}
 use Rattle.goal_facts.proofs.environment.stated.Goals as goal

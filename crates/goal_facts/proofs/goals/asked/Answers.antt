@@ -1,5 +1,5 @@
 use Rattle.std.proofs.Common.{sym, subst}
-use Rattle.goal_terms.specs.Terms.{term_of, IsHead}
+use Rattle.goal_facts.specs.Words.{term_of, IsHead}
 use Rattle.goal_facts.proofs.Arguing.{list_is_head}
 use Rattle.goal_facts.proofs.goals.asked.Goals as goal
 

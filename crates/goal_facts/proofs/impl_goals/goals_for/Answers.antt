@@ -1,9 +1,7 @@
 use Rattle.std.proofs.Common.{◌≡◌, Some, slice_get, sym, ◌∙◌, ap, subst, map}
 use Rattle.std.proofs.lemmas.Result.{IfOk-weaker}
-use Rattle.hir_types.specs.declared.ids.ImplId.{ImplId}
-use Rattle.goal_facts.specs.Arguments.{goal_at}
-use Rattle.goal_facts.specs.Impls.{trait_rule}
-use Rattle.goal_facts.specs.ImplGoals.{holes_from, head_at, AreGoalsOf, AreGoalsAt}
+use Rattle.goal_facts.specs.Words.{ImplId}
+use Rattle.goal_facts.specs.Own.{goal_at, trait_rule, holes_from, head_at, AreGoalsOf, AreGoalsAt}
 use Rattle.goal_facts.proofs.FreshGoals.{are_goals}
 use Rattle.goal_facts.proofs.impl_goals.goals_for.Goals as goal
 

@@ -1,6 +1,5 @@
 use Rattle.std.proofs.Common.{◌≡◌, map, take}
-use Rattle.goal_facts.specs.Arguments.{goal_at}
-use Rattle.goal_facts.specs.Goals.{asked_goal}
+use Rattle.goal_facts.specs.Own.{goal_at, asked_goal}
 use Rattle.goal_facts.proofs.impl_goals.goals_of.Given as goal
 
 abbrev pub invariant-loop-goal : goal.invariant-loop-goal

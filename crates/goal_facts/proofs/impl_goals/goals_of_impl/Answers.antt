@@ -1,9 +1,7 @@
 use Rattle.std.proofs.Common.{sym, subst}
 use Rattle.std.proofs.lemmas.Result.{IfOk-weaker}
-use Rattle.goal_answers.specs.Goals.{Rule}
-use Rattle.goal_answers.specs.Selecting.{IsTraitKind}
-use Rattle.goal_facts.specs.Impls.{trait_rule}
-use Rattle.goal_facts.specs.ImplGoals.{ImplHasRule, AreGoalsOf}
+use Rattle.goal_facts.specs.Words.{Rule, IsTraitKind}
+use Rattle.goal_facts.specs.Own.{trait_rule, ImplHasRule, AreGoalsOf}
 use Rattle.goal_facts.proofs.RulePlaces.{trait_rule_is}
 use Rattle.goal_facts.proofs.impl_goals.goals_of_impl.Goals as goal
 

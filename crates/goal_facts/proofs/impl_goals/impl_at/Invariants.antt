@@ -1,5 +1,5 @@
 use Rattle.std.proofs.Common.{◌≡◌, ◌+◌}
-use Rattle.goal_facts.specs.ImplGoals.{rules_of_first}
+use Rattle.goal_facts.specs.Own.{rules_of_first}
 use Rattle.goal_facts.proofs.impl_goals.impl_at.Given as goal
 
 abbrev pub invariant-loop-number : goal.invariant-loop-number

@@ -1,5 +1,5 @@
 use Rattle.std.proofs.Common.{refl, ◌∙◌, ap, map}
-use Rattle.goal_facts.specs.Arguments.{goal_at}
+use Rattle.goal_facts.specs.Own.{goal_at}
 use Rattle.goal_facts.proofs.impl_goals.impl_goals_at.Goals as goal
 
 pub returns : goal.returns

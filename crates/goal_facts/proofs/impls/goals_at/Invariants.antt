@@ -1,8 +1,6 @@
 use Rattle.std.proofs.Common.{◌≡◌, map, take}
-use Rattle.goal_answers.specs.Goals.{Each}
-use Rattle.goal_terms.specs.Terms.{HasHeads}
-use Rattle.goal_search.specs.Sources.{asked_list}
-use Rattle.goal_facts.specs.Arguments.{goal_at}
+use Rattle.goal_facts.specs.Words.{Each, HasHeads, asked_list}
+use Rattle.goal_facts.specs.Own.{goal_at}
 use Rattle.goal_facts.proofs.impls.goals_at.Given as goal
 
 abbrev pub invariant-loop-goal : goal.invariant-loop-goal

@@ -1,8 +1,6 @@
 use Rattle.std.proofs.Common.{◌≡◌, ◌++◌, map, take}
-use Rattle.goal_answers.specs.Goals.{Each}
-use Rattle.goal_search.specs.Sources.{rules_of}
-use Rattle.goal_search.specs.Searching.{RuleHasHeads}
-use Rattle.goal_facts.specs.Impls.{assoc_rule}
+use Rattle.goal_facts.specs.Words.{Each, rules_of, RuleHasHeads}
+use Rattle.goal_facts.specs.Own.{assoc_rule}
 use Rattle.goal_facts.proofs.impls.push_assoc_rules.Given as goal
 
 abbrev pub invariant-loop-given : goal.invariant-loop-given

@@ -1,8 +1,6 @@
 use Rattle.std.proofs.lemmas.Result.{IfOk-weaker}
-use Rattle.goal_search.specs.Sources.{asked_list}
-use Rattle.goal_facts.specs.Additions.{Has}
-use Rattle.goal_facts.specs.Environment.{IsClosure}
-use Rattle.goal_facts.specs.Bounds.{IsListed}
+use Rattle.goal_facts.specs.Words.{asked_list}
+use Rattle.goal_facts.specs.Own.{Has, IsClosure, IsListed}
 use Rattle.goal_facts.proofs.Systems.{closure_of}
 use Rattle.goal_facts.proofs.sources.bounds_of.Goals as goal
 

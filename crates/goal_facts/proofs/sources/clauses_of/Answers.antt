@@ -1,7 +1,6 @@
 use Rattle.std.proofs.lemmas.Result.{IfOk-weaker}
-use Rattle.goal_search.specs.Sources.{asked_list}
-use Rattle.goal_facts.specs.Additions.{Has}
-use Rattle.goal_facts.specs.Environment.{IsStated, IsClosure}
+use Rattle.goal_facts.specs.Words.{asked_list}
+use Rattle.goal_facts.specs.Own.{Has, IsStated, IsClosure}
 use Rattle.goal_facts.proofs.Systems.{closure_of}
 use Rattle.goal_facts.proofs.sources.clauses_of.Goals as goal
 

@@ -1,6 +1,6 @@
 use Rattle.std.proofs.Common.{◌≡◌, take}
 use Rattle.std.specs.Prelude.{flat_map}
-use Rattle.goal_facts.specs.Systems.{copied_by}
+use Rattle.goal_facts.specs.Own.{copied_by}
 use Rattle.goal_facts.proofs.sources.copied_traits.Given as goal
 
 abbrev pub invariant-loop-item : goal.invariant-loop-item

@@ -1,8 +1,7 @@
 use Rattle.std.proofs.Common.{◌≡◌, ◌∙◌, sym, ap, length}
 use Rattle.std.specs.Prelude.{Some, option_map}
 use Rattle.std.specs.Option.{option_and_then}
-use Rattle.goal_facts.specs.Arguments.{holes, type_at}
-use Rattle.goal_facts.specs.Systems.{last_of, variant_of}
+use Rattle.goal_facts.specs.Own.{holes, type_at, last_of, variant_of}
 use Rattle.goal_facts.proofs.sources.last_field_of.Goals as goal
 
 pub returns-clause-is : goal.returns-clause-is

@@ -1,9 +1,8 @@
 use Rattle.std.proofs.Common.{◌≡◌, map, take}
 use Rattle.std.specs.Prelude.{IfSome}
 use Rattle.std.specs.Option.{option_map}
-use Rattle.goal_answers.specs.Goals.{Each}
-use Rattle.goal_terms.specs.Terms.{term_of, HasHeads}
-use Rattle.goal_facts.specs.Systems.{last_field_of}
+use Rattle.goal_facts.specs.Words.{Each, term_of, HasHeads}
+use Rattle.goal_facts.specs.Own.{last_field_of}
 use Rattle.goal_facts.proofs.sources.last_fields.Given as goal
 
 abbrev pub invariant-loop-adt : goal.invariant-loop-adt

@@ -1,10 +1,8 @@
 use Rattle.std.proofs.Common.{◌≡◌, ◌∷◌, [], ◌++◌, length, sym, ap, subst, ◌∙◌, append_assoc, append-nil, arith, map}
 use Rattle.std.proofs.lemmas.List.{map-append, nil_from_length}
 use Rattle.std.specs.Vec.Iter.{into_iter_items}
-use Rattle.goal_answers.specs.Goals.{Each}
-use Rattle.goal_search.specs.Sources.{asked_of, asked_list, rule_of, rules_of}
-use Rattle.goal_search.specs.Searching.{RuleHasHeads}
-use Rattle.goal_facts.specs.Systems.{fact}
+use Rattle.goal_facts.specs.Words.{Each, asked_of, asked_list, rule_of, rules_of, RuleHasHeads}
+use Rattle.goal_facts.specs.Own.{fact}
 use Rattle.goal_facts.proofs.Systems.{each_append, facts_heads}
 use Rattle.goal_facts.proofs.sources.push_facts.Goals as goal
 

@@ -1,7 +1,7 @@
 use Rattle.std.proofs.Common.{◌≡◌, ◌++◌, map, length}
 use Rattle.std.specs.Vec.Iter.{into_iter_items, into_iter_len}
-use Rattle.goal_search.specs.Sources.{asked_list, rules_of}
-use Rattle.goal_facts.specs.Systems.{fact}
+use Rattle.goal_facts.specs.Words.{asked_list, rules_of}
+use Rattle.goal_facts.specs.Own.{fact}
 use Rattle.goal_facts.proofs.sources.push_facts.Given as goal
 
 abbrev pub invariant-loop-head : goal.invariant-loop-head

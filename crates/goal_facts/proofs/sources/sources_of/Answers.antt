@@ -1,8 +1,7 @@
 use Rattle.std.proofs.Common.{◌++◌, ◌∙◌, ap, map}
 use Rattle.std.specs.Prelude.{flat_map}
-use Rattle.goal_terms.specs.Terms.{term_of}
-use Rattle.goal_search.specs.Sources.{asked_list, rules_of}
-use Rattle.goal_facts.specs.Systems.{fact, sized_by, copied_by, last_field_of}
+use Rattle.goal_facts.specs.Words.{term_of, asked_list, rules_of}
+use Rattle.goal_facts.specs.Own.{fact, sized_by, copied_by, last_field_of}
 use Rattle.goal_facts.proofs.Systems.{entries_agree, field_heads}
 use Rattle.goal_facts.proofs.sources.sources_of.Goals as goal
 

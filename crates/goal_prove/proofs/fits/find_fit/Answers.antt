@@ -1,12 +1,7 @@
 use Rattle.std.proofs.Common.{arith}
-use Rattle.goal_answers.specs.Answers.{answers}
-use Rattle.goal_answers.specs.Steps.{known_below}
-use Rattle.goal_answers.proofs.Upto.{each_at, each_all, each_in_map, each_of_map}
-use Rattle.goal_terms.specs.Terms.{term_of}
-use Rattle.goal_search.specs.Sources.{kind_of, rule_of, system}
-use Rattle.goal_search.specs.Searching.{RuleHasHeads}
-use Rattle.goal_search.proofs.Only.{mapped_at}
-use Rattle.goal_prove.specs.Asking.{FitsNot}
+use Rattle.goal_prove.specs.Words.{answers, known_below, term_of, kind_of, rule_of, system, RuleHasHeads}
+use Rattle.goal_prove.proofs.Words.{each_at, each_all, each_in_map, each_of_map, mapped_at}
+use Rattle.goal_prove.specs.Own.{FitsNot}
 use Rattle.goal_prove.proofs.fits.find_fit.Goals as goal
 
 pub fits-requires-clause-rule : goal.fits-requires-clause-rule

@@ -1,10 +1,6 @@
 use Rattle.std.proofs.Common.{◌≡◌, take}
-use Rattle.goal_answers.specs.Goals.{Each}
-use Rattle.goal_answers.specs.Answers.{answers}
-use Rattle.goal_answers.specs.Steps.{known_below}
-use Rattle.goal_terms.specs.Terms.{term_of}
-use Rattle.goal_search.specs.Sources.{kind_of, rule_of, system}
-use Rattle.goal_prove.specs.Asking.{FitsNot}
+use Rattle.goal_prove.specs.Words.{Each, answers, known_below, term_of, kind_of, rule_of, system}
+use Rattle.goal_prove.specs.Own.{FitsNot}
 use Rattle.goal_prove.proofs.fits.find_fit.Given as goal
 
 -- none of those before fits

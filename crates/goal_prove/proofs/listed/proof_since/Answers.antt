@@ -1,6 +1,5 @@
 use Rattle.std.proofs.Common.{sym, ap, ◌∙◌}
-use Rattle.goal_facts.specs.declared.proof.Proof.{Proof}
-use Rattle.goal_facts.specs.Goals.{asked_goal}
+use Rattle.goal_prove.specs.Words.{Proof, asked_goal}
 use Rattle.goal_prove.proofs.Answering.{entry_of_goal}
 use Rattle.goal_prove.proofs.listed.proof_since.Goals as goal
 

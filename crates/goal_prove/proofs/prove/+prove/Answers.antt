@@ -1,22 +1,8 @@
 use Rattle.std.proofs.Common.{◌≡◌, ◌+◌, suc, true, false, length, slice_get, Some, None, sym, ap, ◌∙◌, subst, arith, take}
 use Rattle.std.proofs.lemmas.Option.{same_Some}
-use Rattle.hir_raw.specs.declared.raw.RawFacts.{RawFacts}
-use Rattle.hir_types.specs.Terms.{hole}
-use Rattle.hir_raw.specs.declared.raw.RawImpl.{RawImpl}
-use Rattle.goal_answers.specs.Reading.{Reads}
-use Rattle.goal_answers.specs.Goals.{Rule, is_among, Each}
-use Rattle.goal_answers.specs.Answers.{answers}
-use Rattle.goal_answers.specs.Steps.{ReadingIs}
-use Rattle.goal_answers.proofs.Upto.{each_at, each_in_map}
-use Rattle.goal_terms.specs.Terms.{term_of}
-use Rattle.goal_terms.specs.Bindings.{log_of, fill_of}
-use Rattle.goal_search.specs.Holes.{holes_fill}
-use Rattle.goal_search.specs.declared.sources.Sources.{Sources}
-use Rattle.goal_search.specs.Searching.{RuleHasHeads}
-use Rattle.goal_search.specs.Sources.{kind_of, asked_of, asked_list, rules_of, system}
-use Rattle.goal_facts.proofs.Systems.{each_get}
-use Rattle.goal_prove.specs.Parts.{CopiesAre}
-use Rattle.goal_prove.specs.Asking.{PredIsAsked, ArePredsProved, fill_args}
+use Rattle.goal_prove.specs.Words.{RawFacts, hole, RawImpl, Reads, Rule, is_among, Each, answers, ReadingIs, term_of, log_of, fill_of, holes_fill, Sources, RuleHasHeads, kind_of, asked_of, asked_list, rules_of, system}
+use Rattle.goal_prove.proofs.Words.{each_at, each_in_map, each_get}
+use Rattle.goal_prove.specs.Own.{CopiesAre, PredIsAsked, ArePredsProved, fill_args}
 use Rattle.goal_prove.proofs.Built.{by_size, by_itself, by_listed, by_parts, by_impl, preds_asked}
 use Rattle.goal_prove.proofs.Copied.{has_parts, parts_asked}
 use Rattle.goal_prove.proofs.Fitting.{trait_not_itself, free, sourced}

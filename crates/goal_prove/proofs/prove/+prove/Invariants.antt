@@ -1,7 +1,6 @@
 use Rattle.std.proofs.Common.{◌≡◌, ◌+◌, ◌*◌, take}
-use Rattle.goal_search.specs.Holes.{holes_fill}
-use Rattle.goal_search.specs.Sources.{asked_list, system}
-use Rattle.goal_prove.specs.Asking.{ArePredsProved}
+use Rattle.goal_prove.specs.Words.{holes_fill, asked_list, system}
+use Rattle.goal_prove.specs.Own.{ArePredsProved}
 use Rattle.goal_prove.proofs.prove.+prove.Given as goal
 
 -- each asks the next at the same depth, and a predicate less deep

@@ -1,6 +1,5 @@
 use Rattle.std.proofs.Common.{sym}
-use Rattle.goal_terms.specs.Terms.{term_of}
-use Rattle.goal_search.specs.Sources.{kind_of, system}
+use Rattle.goal_prove.specs.Words.{term_of, kind_of, system}
 use Rattle.goal_prove.proofs.Built.{by_clause}
 use Rattle.goal_prove.proofs.prove.prove_by_clause.Goals as goal
 

@@ -1,11 +1,5 @@
 use Rattle.std.proofs.Common.{refl, subst}
-use Rattle.hir_types.specs.Terms.{hole}
-use Rattle.goal_answers.specs.Goals.{asked_at}
-use Rattle.goal_answers.specs.Steps.{known_below}
-use Rattle.goal_search.specs.declared.sources.Sources.{Sources}
-use Rattle.goal_search.specs.Searching.{Decides}
-use Rattle.goal_search.specs.Sources.{asked_of, system}
-use Rattle.goal_facts.specs.Goals.{asked_goal}
+use Rattle.goal_prove.specs.Words.{hole, asked_at, known_below, Sources, Decides, asked_of, system, asked_goal}
 use Rattle.goal_prove.proofs.Adding.{adds_none}
 use Rattle.goal_prove.proofs.Children.{children_none}
 use Rattle.goal_prove.proofs.Whole.{answered, not_proved, is_other}

@@ -1,13 +1,6 @@
 use Rattle.std.proofs.Common.{None, sym, ap, subst}
-use Rattle.hir_types.specs.Terms.{Term, hole}
-use Rattle.goal_answers.specs.Goals.{Asked, Kind}
-use Rattle.goal_answers.specs.Answers.{answers}
-use Rattle.goal_answers.specs.Reading.{ReadsAs}
-use Rattle.goal_answers.specs.Steps.{ReadingIs}
-use Rattle.goal_terms.specs.Terms.{term_of, HasHeads}
-use Rattle.goal_search.specs.declared.sources.Sources.{Sources}
-use Rattle.goal_search.specs.Sources.{system}
-use Rattle.goal_prove.specs.Asking.{ReadsTo, IsAsked}
+use Rattle.goal_prove.specs.Words.{Term, hole, Asked, Kind, answers, ReadsAs, ReadingIs, term_of, HasHeads, Sources, system}
+use Rattle.goal_prove.specs.Own.{ReadsTo, IsAsked}
 use Rattle.goal_prove.proofs.Whole.{reads_some, whole_reads, whole_asked}
 use Rattle.goal_prove.proofs.prove.prove_yes.Goals as goal
 

@@ -1,10 +1,9 @@
 use Rattle.std.proofs.Common.{sym, ap, ◌∙◌, ◌++◌, [], ◌∷◌}
 use Rattle.hir_types.specs.declared.ty.GenericArg.TheVariants as arg
 use Rattle.hir_types.specs.declared.head.Hole.TheVariants as hole_of
-use Rattle.infer_table.specs.Solutions.{found}
-use Rattle.goal_terms.specs.Bindings.{log_of}
-use Rattle.goal_facts.proofs.Arguing.{counted_more}
-use Rattle.goal_prove.specs.Asking.{type_or_unknown, fill_args}
+use Rattle.goal_prove.specs.Words.{found, log_of}
+use Rattle.goal_prove.proofs.Words.{counted_more}
+use Rattle.goal_prove.specs.Own.{type_or_unknown, fill_args}
 use Rattle.goal_prove.proofs.types.fill_args.Goals as goal
 
 pub loop-number-preserved : goal.loop-number-preserved

@@ -1,6 +1,6 @@
 use Rattle.std.proofs.Common.{◌≡◌}
-use Rattle.goal_terms.specs.Bindings.{log_of}
-use Rattle.goal_prove.specs.Asking.{fill_args}
+use Rattle.goal_prove.specs.Words.{log_of}
+use Rattle.goal_prove.specs.Own.{fill_args}
 use Rattle.goal_prove.proofs.types.fill_args.Given as goal
 
 -- those of the parameters before

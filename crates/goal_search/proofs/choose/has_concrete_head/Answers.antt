@@ -1,8 +1,7 @@
 use Rattle.std.proofs.Common.{refl, sym, ◌∙◌, subst}
 use Rattle.std.proofs.lemmas.Option.{same_Some}
-use Rattle.goal_answers.specs.Goals.{Rule}
-use Rattle.goal_answers.specs.Selecting.{IsConcrete}
-use Rattle.goal_search.specs.Sources.{rule_of}
+use Rattle.goal_search.specs.Words.{Rule, IsConcrete}
+use Rattle.goal_search.specs.Own.{rule_of}
 use Rattle.goal_search.proofs.Only.{mapped_at, mapped_past}
 use Rattle.goal_search.proofs.choose.has_concrete_head.Goals as goal
 

@@ -1,12 +1,7 @@
 use Rattle.std.proofs.Common.{true≢false, sym, ap, ◌∙◌, subst, MatchBool}
-use Rattle.hir_types.specs.Terms.{pair}
-use Rattle.goal_answers.specs.Reading.{staying}
-use Rattle.goal_answers.specs.Goals.{projects}
-use Rattle.goal_answers.specs.Answers.{IsNeverItself}
-use Rattle.goal_terms.specs.Terms.{term_of}
-use Rattle.goal_terms.specs.Same.{CanBeItself}
-use Rattle.goal_terms.proofs.Owned.{pair_of}
-use Rattle.goal_search.specs.Sources.{kind_of}
+use Rattle.goal_search.specs.Words.{pair, staying, projects, IsNeverItself, term_of, CanBeItself}
+use Rattle.goal_search.proofs.Words.{pair_of}
+use Rattle.goal_search.specs.Own.{kind_of}
 use Rattle.goal_search.proofs.Small.{itself_open}
 use Rattle.goal_search.proofs.first.is_itself.Goals as goal
 

@@ -1,12 +1,7 @@
 use Rattle.std.proofs.Common.{true≢false, sym, refl, subst, MatchOption}
-use Rattle.goal_answers.specs.Goals.{Rule as SourceRule, args_of}
-use Rattle.goal_answers.specs.Answers.{IsApart, CannotGive}
-use Rattle.goal_answers.proofs.Upto.{each_at, each_all, each_in_map, each_of_map}
-use Rattle.goal_terms.specs.Terms.{term_of, HasHeads}
-use Rattle.goal_terms.specs.Bindings.{log_of, fill_of}
-use Rattle.goal_terms.specs.Opening.{IsCommon}
-use Rattle.goal_search.specs.Sources.{rule_of}
-use Rattle.goal_search.specs.Searching.{RuleHasHeads}
+use Rattle.goal_search.specs.Words.{Rule as SourceRule, args_of, IsApart, CannotGive, term_of, HasHeads, log_of, fill_of, IsCommon}
+use Rattle.goal_search.proofs.Words.{each_at, each_all, each_in_map, each_of_map}
+use Rattle.goal_search.specs.Own.{rule_of, RuleHasHeads}
 use Rattle.goal_search.proofs.Heads.{args_heads}
 use Rattle.goal_search.proofs.Small.{can_give}
 use Rattle.goal_search.proofs.first.none_can_give.Goals as goal

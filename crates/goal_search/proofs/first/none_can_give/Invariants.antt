@@ -1,8 +1,6 @@
 use Rattle.std.proofs.Common.{take}
-use Rattle.goal_answers.specs.Goals.{Each}
-use Rattle.goal_answers.specs.Answers.{CannotGive}
-use Rattle.goal_terms.specs.Terms.{term_of}
-use Rattle.goal_search.specs.Sources.{rule_of}
+use Rattle.goal_search.specs.Words.{Each, CannotGive, term_of}
+use Rattle.goal_search.specs.Own.{rule_of}
 use Rattle.goal_search.proofs.first.none_can_give.Given as goal
 
 -- none of those before can give the alias

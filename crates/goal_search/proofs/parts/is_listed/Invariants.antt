@@ -1,6 +1,6 @@
 use Rattle.std.proofs.Common.{◌≡◌, false, take}
 use Rattle.std.specs.List.{list_any}
-use Rattle.goal_answers.specs.Goals.{is_trait}
+use Rattle.goal_search.specs.Words.{is_trait}
 use Rattle.goal_search.proofs.parts.is_listed.Given as goal
 
 -- none of those before is the wanted one

@@ -1,8 +1,7 @@
 use Rattle.std.proofs.Common.{sym, refl, ap, ◌∙◌, subst, option_map, Some, None}
-use Rattle.hir_types.specs.Terms.{leaf, pair, hole_number}
-use Rattle.goal_terms.specs.Terms.{term_of, term_of_hole, term_of_leaf}
-use Rattle.goal_terms.proofs.Owned.{pair_of}
-use Rattle.goal_search.specs.Parts.{IsFieldAt, IsNthIf}
+use Rattle.goal_search.specs.Words.{leaf, pair, hole_number, term_of, term_of_hole, term_of_leaf}
+use Rattle.goal_search.proofs.Words.{pair_of}
+use Rattle.goal_search.specs.Own.{IsFieldAt, IsNthIf}
 use Rattle.goal_search.proofs.Small.{hole_at, leaf_at, pair_at, not_left_at, not_right_at}
 use Rattle.goal_search.proofs.rows.+field_at.Goals as goal
 

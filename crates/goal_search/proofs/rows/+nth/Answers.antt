@@ -1,6 +1,6 @@
 use Rattle.std.proofs.Common.{◌-◌, refl, option_map, arith}
-use Rattle.goal_terms.specs.Terms.{term_of}
-use Rattle.goal_terms.proofs.Owned.{pair_of}
+use Rattle.goal_search.specs.Words.{term_of}
+use Rattle.goal_search.proofs.Words.{pair_of}
 use Rattle.goal_search.proofs.Small.{nth_next}
 use Rattle.goal_search.proofs.rows.+nth.Goals as goal
 

@@ -1,6 +1,6 @@
-use Rattle.goal_terms.specs.Terms.{term_of}
-use Rattle.goal_terms.proofs.Owned.{pair_of}
-use Rattle.goal_search.specs.Sources.{kind_of, asked_list}
+use Rattle.goal_search.specs.Words.{term_of}
+use Rattle.goal_search.proofs.Words.{pair_of}
+use Rattle.goal_search.specs.Own.{kind_of, asked_list}
 use Rattle.goal_search.proofs.Small.{after_const}
 use Rattle.goal_search.proofs.rows.+push_goals.Goals as goal
 

@@ -1,9 +1,7 @@
 use Rattle.std.proofs.Common.{true≢false, sym, ◌∙◌, refl}
-use Rattle.goal_answers.specs.Goals.{IsToldBy}
-use Rattle.goal_answers.specs.Goals.{Asked as AskedGoal}
-use Rattle.goal_answers.proofs.Upto.{each_at, each_all, each_in_map, each_of_map}
-use Rattle.goal_terms.specs.Terms.{term_of}
-use Rattle.goal_search.specs.Sources.{asked_of}
+use Rattle.goal_search.specs.Words.{IsToldBy, Asked as AskedGoal, term_of}
+use Rattle.goal_search.proofs.Words.{each_at, each_all, each_in_map, each_of_map}
+use Rattle.goal_search.specs.Own.{asked_of}
 use Rattle.goal_search.proofs.told.are_told_by.Goals as goal
 
 pub returns-then-not-is_told_by : goal.returns-then-not-is_told_by

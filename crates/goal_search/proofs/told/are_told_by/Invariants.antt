@@ -1,6 +1,5 @@
 use Rattle.std.proofs.Common.{take}
-use Rattle.goal_answers.specs.Goals.{Each, IsToldBy}
-use Rattle.goal_terms.specs.Terms.{term_of}
+use Rattle.goal_search.specs.Words.{Each, IsToldBy, term_of}
 use Rattle.goal_search.proofs.told.are_told_by.Given as goal
 
 -- the holes of those before are told

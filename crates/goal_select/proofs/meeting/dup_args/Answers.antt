@@ -1,5 +1,5 @@
 use Rattle.std.proofs.Common.{◌≡◌, IfOk, subst}
-use Rattle.hir_types.specs.Replacements.{args_folded_itself}
+use Rattle.goal_select.specs.Words.{args_folded_itself}
 use Rattle.goal_select.proofs.meeting.dup_args.Goals as goal
 
 pub returns : goal.returns

@@ -1,5 +1,5 @@
 use Rattle.std.proofs.Common.{◌≡◌, ◌++◌, map, take}
-use Rattle.goal_select.specs.Steps.{only_goal}
+use Rattle.goal_select.specs.Own.{only_goal}
 use Rattle.goal_select.proofs.parts.push_goals.Given as goal
 
 abbrev pub invariant-loop-ty : goal.invariant-loop-ty

@@ -1,10 +1,7 @@
 use Rattle.std.proofs.Common.{subst}
 use Rattle.std.proofs.lemmas.Result.{IfOk-weaker}
-use Rattle.goal_answers.specs.Selecting.{Selects}
-use Rattle.goal_search.specs.Sources.{system}
-use Rattle.goal_search.specs.Choosing.{choice_of}
-use Rattle.goal_facts.specs.Goals.{trait_goal}
-use Rattle.goal_select.specs.Steps.{IsBuiltInBy, self_part_goals, SelectsKnown}
+use Rattle.goal_select.specs.Words.{Selects, system, choice_of, trait_goal}
+use Rattle.goal_select.specs.Own.{IsBuiltInBy, self_part_goals, SelectsKnown}
 use Rattle.goal_select.proofs.PartChoices.{parts_selected, size_selected}
 use Rattle.goal_select.proofs.select.by_choice.Goals as goal
 

@@ -1,10 +1,7 @@
 use Rattle.std.proofs.Common.{◌≡◌, sym, ap, ◌∙◌, subst}
-use Rattle.goal_answers.specs.Goals.{implements, projects}
-use Rattle.goal_facts.specs.Goals.{asked_goal}
-use Rattle.infer_table.specs.Table.{AreUnifiedIf}
-use Rattle.goal_search.specs.Sources.{system}
+use Rattle.goal_select.specs.Words.{implements, projects, asked_goal, AreUnifiedIf, system}
 use Rattle.goal_facts.specs.declared.proof.ProofSource.TheVariants as source
-use Rattle.goal_select.specs.Steps.{goal_type}
+use Rattle.goal_select.specs.Own.{goal_type}
 use Rattle.goal_select.proofs.Known.{goal_type_of, known_of, known_stays}
 use Rattle.goal_select.proofs.ClauseChoices.{found, clause_is, head_none, clause_met, clause_selected}
 use Rattle.goal_select.proofs.select.by_clause.Goals as goal

@@ -1,16 +1,11 @@
 use Rattle.std.proofs.Common.{◌≡◌, refl, sym, ap, ◌∙◌, subst, length, map}
 use Rattle.std.specs.List.{range_with_len}
 use Rattle.hir_types.specs.declared.head.HoleKind.TheVariants as kind
-use Rattle.infer_table.specs.LogLemmas.{are_of_more}
-use Rattle.infer_table.specs.Solutions.{AreOf}
-use Rattle.infer_table.specs.Table.{HolesAreOf, hole_count, CanBeEqual, AreUnified, AreUnifiedIf}
-use Rattle.goal_answers.specs.Goals.{implements, projects}
-use Rattle.goal_search.specs.Sources.{system}
+use Rattle.goal_select.specs.Words.{are_of_more, AreOf, HolesAreOf, hole_count, CanBeEqual, AreUnified, AreUnifiedIf, implements, projects, system, trait_goal, asked_goal}
 use Rattle.goal_facts.specs.declared.proof.ProofSource.TheVariants as source
-use Rattle.goal_facts.specs.Goals.{trait_goal, asked_goal}
 use Rattle.goal_facts.specs.ImplGoals.{AreGoalsOf}
-use Rattle.goal_facts.proofs.Following.{entry_at}
-use Rattle.goal_select.specs.Steps.{goal_type, with_type_holes}
+use Rattle.goal_select.proofs.Words.{entry_at}
+use Rattle.goal_select.specs.Own.{goal_type, with_type_holes}
 use Rattle.goal_select.proofs.Known.{goal_type_of, known_of}
 use Rattle.goal_select.proofs.Params.{params_length, fresh_of}
 use Rattle.goal_select.proofs.RuleChoices.{rule_within, rule_for, rule_trait, params}

@@ -1,6 +1,6 @@
 use Rattle.std.proofs.Common.{ap, ◌∙◌}
 use Rattle.hir_types.specs.declared.head.HoleKind.TheVariants as kind
-use Rattle.infer_table.specs.Table.{with_new_hole}
+use Rattle.goal_select.specs.Words.{with_new_hole}
 use Rattle.goal_select.proofs.Params.{next_type_hole}
 use Rattle.goal_select.proofs.select.make_holes.Goals as goal
 

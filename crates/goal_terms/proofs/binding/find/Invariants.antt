@@ -1,6 +1,6 @@
 use Rattle.std.proofs.Common.{◌≡◌, drop}
-use Rattle.infer_table.specs.Solutions.{found}
-use Rattle.goal_terms.specs.Bindings.{log_of}
+use Rattle.goal_terms.specs.Words.{found}
+use Rattle.goal_terms.specs.Own.{log_of}
 use Rattle.goal_terms.proofs.binding.find.Given as goal
 
 -- no binding before this one is of the hole

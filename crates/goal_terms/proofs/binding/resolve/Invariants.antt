@@ -1,7 +1,6 @@
 use Rattle.std.proofs.Common.{◌≡◌, drop}
-use Rattle.infer_table.specs.Solutions.{resolved}
-use Rattle.goal_terms.specs.Terms.{term_of}
-use Rattle.goal_terms.specs.Bindings.{log_of}
+use Rattle.goal_terms.specs.Words.{resolved}
+use Rattle.goal_terms.specs.Own.{term_of, log_of}
 use Rattle.goal_terms.proofs.binding.resolve.Given as goal
 
 -- the bindings that are left, put into what is made

@@ -1,6 +1,6 @@
 use Rattle.std.proofs.Common.{sym, ◌∙◌}
-use Rattle.infer_table.specs.TermLemmas.{sub_absent}
-use Rattle.goal_terms.specs.Terms.{term_of}
+use Rattle.goal_terms.specs.Words.{sub_absent}
+use Rattle.goal_terms.specs.Own.{term_of}
 use Rattle.goal_terms.proofs.binding.with_binding.Goals as goal
 
 pub returns-then-not-stands_in : goal.returns-then-not-stands_in

@@ -1,9 +1,7 @@
 use Rattle.std.proofs.Common.{ap₂, ◌∙◌, subst, [], Bool}
 use Rattle.std.proofs.lemmas.Bool.{both_ways}
-use Rattle.infer_table.specs.Solutions.{UnifiedIf}
-use Rattle.goal_terms.specs.Terms.{term_of}
-use Rattle.goal_terms.specs.Bindings.{log_of}
-use Rattle.goal_terms.specs.Opening.{Opened, resolved_all}
+use Rattle.goal_terms.specs.Words.{UnifiedIf}
+use Rattle.goal_terms.specs.Own.{term_of, log_of, Opened, resolved_all}
 use Rattle.goal_terms.proofs.Commons.{apart_unread, apart_none, common}
 use Rattle.goal_terms.proofs.common.find_common.Goals as goal
 

@@ -1,6 +1,5 @@
 use Rattle.std.proofs.Common.{◌≡◌, take}
-use Rattle.goal_terms.specs.Bindings.{log_of}
-use Rattle.goal_terms.specs.Opening.{resolved_all}
+use Rattle.goal_terms.specs.Own.{log_of, resolved_all}
 use Rattle.goal_terms.proofs.common.resolve_all.Given as goal
 
 abbrev pub invariant-loop-name : goal.invariant-loop-name

@@ -1,7 +1,6 @@
 use Rattle.std.proofs.Common.{◌≡◌, ◌+◌, ◌*◌, drop}
-use Rattle.hir_types.specs.Terms.{chain}
-use Rattle.hir_types.specs.Outlines.{part_terms}
-use Rattle.goal_terms.specs.Terms.{term_of, HasHeads}
+use Rattle.goal_terms.specs.Words.{chain, part_terms}
+use Rattle.goal_terms.specs.Own.{term_of, HasHeads}
 use Rattle.goal_terms.proofs.conversions.+convert.Given as goal
 
 -- the levels that are left, and then how near a function stands to the next type

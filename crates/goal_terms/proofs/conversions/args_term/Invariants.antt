@@ -1,6 +1,6 @@
 use Rattle.std.proofs.Common.{◌≡◌, map, drop}
-use Rattle.hir_types.specs.Terms.{chain, arg_term}
-use Rattle.goal_terms.specs.Terms.{term_of, HasHeads}
+use Rattle.goal_terms.specs.Words.{chain, arg_term}
+use Rattle.goal_terms.specs.Own.{term_of, HasHeads}
 use Rattle.goal_terms.proofs.conversions.args_term.Given as goal
 
 -- the arguments from this one on

@@ -1,7 +1,6 @@
 use Rattle.std.proofs.Common.{ap, sym, ◌∙◌, arith}
-use Rattle.infer_table.specs.Solutions.{found}
-use Rattle.goal_terms.specs.Terms.{term_of}
-use Rattle.goal_terms.specs.Bindings.{log_of}
+use Rattle.goal_terms.specs.Words.{found}
+use Rattle.goal_terms.specs.Own.{term_of, log_of}
 use Rattle.goal_terms.proofs.Owned.{some_of}
 use Rattle.goal_terms.proofs.HeadLaws.{heads_found}
 use Rattle.goal_terms.proofs.Unifiers.{after_bound, after_first}

@@ -1,8 +1,6 @@
 use Rattle.std.proofs.Common.{refl, ap, ◌∙◌}
-use Rattle.hir_types.specs.Terms.{hole}
-use Rattle.infer_table.specs.Solutions.{resolved}
-use Rattle.goal_terms.specs.Terms.{term_of}
-use Rattle.goal_terms.specs.Bindings.{log_of}
+use Rattle.goal_terms.specs.Words.{hole, resolved}
+use Rattle.goal_terms.specs.Own.{term_of, log_of}
 use Rattle.goal_terms.proofs.Unifiers.{known_free, known_heads, known_hole, after_known}
 use Rattle.goal_terms.proofs.equate.bind_hole.Goals as goal
 

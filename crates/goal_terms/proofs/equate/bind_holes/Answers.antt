@@ -1,10 +1,8 @@
 use Rattle.std.proofs.Common.{sym, ◌∙◌, false}
 use Rattle.std.proofs.lemmas.Bool.{both_ways}
-use Rattle.hir_types.specs.Terms.{hole}
-use Rattle.infer_table.specs.TermLemmas.{hole_eq_flip, hole_respects}
-use Rattle.infer_table.proofs.UnifyLaws.{unified_flip}
-use Rattle.goal_terms.specs.Terms.{term_of_hole}
-use Rattle.goal_terms.specs.Bindings.{log_of}
+use Rattle.goal_terms.specs.Words.{hole, hole_eq_flip, hole_respects}
+use Rattle.goal_terms.proofs.Words.{unified_flip}
+use Rattle.goal_terms.specs.Own.{term_of_hole, log_of}
 use Rattle.goal_terms.proofs.Unifiers.{free_hole, extends_bind, unified_term}
 use Rattle.goal_terms.proofs.equate.bind_holes.Goals as goal
 

@@ -1,8 +1,7 @@
 use Rattle.std.proofs.Common.{refl, sym, ◌∙◌}
 use Rattle.std.proofs.lemmas.Bool.{both_ways}
-use Rattle.infer_table.specs.Solutions.{Kept}
-use Rattle.goal_terms.specs.Terms.{term_of}
-use Rattle.goal_terms.specs.Bindings.{log_of}
+use Rattle.goal_terms.specs.Words.{Kept}
+use Rattle.goal_terms.specs.Own.{term_of, log_of}
 use Rattle.goal_terms.proofs.Unifiers.{none_within, extends_bind, unified_term}
 use Rattle.goal_terms.proofs.equate.bind_term.Goals as goal
 use Rattle.goal_terms.proofs.equate.bind_term.Goals.{else-is_int_hole-via-then-is_int_hole+else-not-is_int, else-is_int_hole-via-else-is_int_hole}

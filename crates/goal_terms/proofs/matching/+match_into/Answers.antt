@@ -1,7 +1,6 @@
 use Rattle.std.proofs.Common.{sym, ap, ◌∙◌}
-use Rattle.goal_answers.specs.Reading.{role}
-use Rattle.goal_terms.specs.Terms.{term_of, role_of}
-use Rattle.goal_terms.specs.Bindings.{log_of}
+use Rattle.goal_terms.specs.Words.{role}
+use Rattle.goal_terms.specs.Own.{term_of, role_of, log_of}
 use Rattle.goal_terms.proofs.Owned.{pair_of}
 use Rattle.goal_terms.proofs.Matches.{after_pair}
 use Rattle.goal_terms.proofs.matching.+match_into.Goals as goal

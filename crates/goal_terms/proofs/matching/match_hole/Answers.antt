@@ -1,7 +1,6 @@
 use Rattle.std.proofs.Common.{sym, ap, ◌∙◌}
-use Rattle.infer_table.specs.Solutions.{found}
-use Rattle.goal_terms.specs.Terms.{term_of}
-use Rattle.goal_terms.specs.Bindings.{log_of}
+use Rattle.goal_terms.specs.Words.{found}
+use Rattle.goal_terms.specs.Own.{term_of, log_of}
 use Rattle.goal_terms.proofs.Owned.{none_of}
 use Rattle.goal_terms.proofs.Matches.{matched_bound}
 use Rattle.goal_terms.proofs.matching.match_hole.Goals as goal

@@ -1,7 +1,6 @@
 use Rattle.std.proofs.Common.{subst, IfOk, []}
-use Rattle.infer_table.specs.Solutions.{UnifiedIf}
-use Rattle.goal_terms.specs.Terms.{term_of}
-use Rattle.goal_terms.specs.Bindings.{log_of}
+use Rattle.goal_terms.specs.Words.{UnifiedIf}
+use Rattle.goal_terms.specs.Own.{term_of, log_of}
 use Rattle.goal_terms.proofs.Sames.{after_staying}
 use Rattle.goal_terms.proofs.same.can_be_itself.Goals as goal
 

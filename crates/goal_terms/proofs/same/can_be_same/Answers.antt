@@ -1,7 +1,6 @@
 use Rattle.std.proofs.Common.{sym, subst, IfOk, []}
-use Rattle.infer_table.specs.Solutions.{UnifiedIf}
-use Rattle.goal_terms.specs.Terms.{term_of, HasHeads}
-use Rattle.goal_terms.specs.Bindings.{log_of}
+use Rattle.goal_terms.specs.Words.{UnifiedIf}
+use Rattle.goal_terms.specs.Own.{term_of, HasHeads, log_of}
 use Rattle.goal_terms.proofs.Sames.{moved_heads, after_moved}
 use Rattle.goal_terms.proofs.same.can_be_same.Goals as goal
 

@@ -1,5 +1,5 @@
 use Rattle.std.proofs.Common.{sym, ◌∙◌}
-use Rattle.infer_table.proofs.Heads.{head_decides}
+use Rattle.goal_terms.proofs.Words.{head_decides}
 use Rattle.goal_terms.proofs.term.is_same_head.Goals as goal
 
 pub returns : goal.returns

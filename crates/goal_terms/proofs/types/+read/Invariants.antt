@@ -1,6 +1,6 @@
 use Rattle.std.proofs.Common.{◌≡◌, ◌+◌, ◌*◌, ◌++◌, drop}
-use Rattle.hir_types.specs.Faithful.{types, leading_args, bounds_of}
-use Rattle.goal_terms.specs.Types.{parts_read}
+use Rattle.goal_terms.specs.Words.{types, leading_args, bounds_of}
+use Rattle.goal_terms.specs.Own.{parts_read}
 use Rattle.goal_terms.proofs.types.+read.Given as goal
 
 -- the levels that are left, and then how near a function stands to the next type

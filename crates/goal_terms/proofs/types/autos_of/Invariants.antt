@@ -1,6 +1,6 @@
 use Rattle.std.proofs.Common.{◌≡◌, ◌++◌, drop}
-use Rattle.hir_types.specs.Faithful.{autos_of}
-use Rattle.goal_terms.specs.Types.{parts_read}
+use Rattle.goal_terms.specs.Words.{autos_of}
+use Rattle.goal_terms.specs.Own.{parts_read}
 use Rattle.goal_terms.proofs.types.autos_of.Given as goal
 
 -- what was read, with what the parts from this one on come to

@@ -1,6 +1,6 @@
 use Rattle.std.proofs.Common.{◌≡◌, drop}
-use Rattle.hir_types.specs.Faithful.{first_const}
-use Rattle.goal_terms.specs.Types.{parts_read}
+use Rattle.goal_terms.specs.Words.{first_const}
+use Rattle.goal_terms.specs.Own.{parts_read}
 use Rattle.goal_terms.proofs.types.first_const.Given as goal
 
 -- no part before this one is a const

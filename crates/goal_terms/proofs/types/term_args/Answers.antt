@@ -1,7 +1,6 @@
 use Rattle.std.proofs.Common.{ap, ◌∙◌}
-use Rattle.hir_types.specs.Faithful.{leading_args}
-use Rattle.goal_terms.specs.Terms.{term_of}
-use Rattle.goal_terms.specs.Types.{parts_read}
+use Rattle.goal_terms.specs.Words.{leading_args}
+use Rattle.goal_terms.specs.Own.{term_of, parts_read}
 use Rattle.goal_terms.proofs.ReadBack.{args_back}
 use Rattle.goal_terms.proofs.types.term_args.Goals as goal
 

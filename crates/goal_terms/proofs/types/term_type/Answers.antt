@@ -1,4 +1,4 @@
-use Rattle.goal_terms.specs.Terms.{term_of}
+use Rattle.goal_terms.specs.Own.{term_of}
 use Rattle.goal_terms.proofs.ReadBack.{type_back}
 use Rattle.goal_terms.proofs.types.term_type.Goals as goal
 

@@ -1,11 +1,6 @@
 use Rattle.std.proofs.Common.{◌≡◌, sym, subst, ◌∙◌}
-use Rattle.infer_table.specs.Table.{State, Grew}
-use Rattle.infer_table.proofs.HoleLaws.{grew_twice}
-use Rattle.infer_goals.specs.declared.table.GoalTable.{GoalTable}
-use Rattle.infer_goals.specs.Below.{system}
-use Rattle.infer_goals.specs.Stays.{stays_with}
-use Rattle.infer_goals.specs.Undo.{KeepsGoals}
-use Rattle.infer_goals.proofs.Steps.{went_grew}
+use Rattle.goal_tests.specs.Words.{State, Grew, GoalTable, system, stays_with, KeepsGoals}
+use Rattle.goal_tests.proofs.Words.{grew_twice, went_grew}
 use Rattle.goal_tests.proofs.Keeping.{keeps_still, keeps_same}
 use Rattle.goal_tests.proofs.undo.go_on.Goals as goal
 

@@ -1,12 +1,7 @@
 use Rattle.std.proofs.Common.{sym, subst}
 use Rattle.hir_types.specs.declared.head.Head.TheVariants as head
 use Rattle.hir_types.specs.declared.ty.GenericArg.TheVariants as arg
-use Rattle.hir_types.specs.Terms.{leaf, term, arg_term}
-use Rattle.hir_types.specs.TermLaws.{arg_term_type}
-use Rattle.infer_table.specs.LogLemmas.{are_of_leaf, are_of_pair}
-use Rattle.infer_table.specs.MadeTest.{HasMadeIf}
-use Rattle.infer_table.specs.Solutions.{AreOf}
-use Rattle.goal_select.specs.Steps.{GoalIsOf}
+use Rattle.goal_tests.specs.Words.{leaf, term, arg_term, arg_term_type, are_of_leaf, are_of_pair, HasMadeIf, AreOf, GoalIsOf}
 use Rattle.goal_tests.proofs.undo.register.Goals as goal
 
 -- the goal has the holes of the type, which the table made

@@ -1,11 +1,7 @@
 use Rattle.std.proofs.Common.{◌≡◌, sym, subst}
 use Rattle.hir_types.specs.declared.head.HoleKind.TheVariants as kind
-use Rattle.infer_table.proofs.HoleLaws.{grew_by_hole}
-use Rattle.infer_goals.specs.declared.table.GoalTable.{GoalTable}
-use Rattle.infer_goals.specs.Below.{system}
-use Rattle.infer_goals.specs.Obligations.{AreKept}
-use Rattle.infer_goals.specs.Stays.{stays_with}
-use Rattle.infer_goals.specs.Undo.{KeepsGoals}
+use Rattle.goal_tests.proofs.Words.{grew_by_hole}
+use Rattle.goal_tests.specs.Words.{GoalTable, system, AreKept, stays_with, KeepsGoals}
 use Rattle.goal_tests.proofs.Keeping.{keeps_still}
 use Rattle.goal_tests.proofs.undo.table_of.Goals as goal
 

@@ -1,6 +1,6 @@
-use Rattle.hir_counts.specs.Sought.{number_in}
-use Rattle.hir_facts.specs.Counts.{MentionFits}
-use Rattle.hir_ids.proofs.Telling.{mentions_tell}
+use Rattle.hir_counts.specs.Own.{number_in}
+use Rattle.hir_counts.specs.Words.{MentionFits}
+use Rattle.hir_counts.proofs.Words.{mentions_tell}
 use Rattle.hir_counts.proofs.counts.body_fits.Goals as goal
 
 pub returns : goal.returns

@@ -1,7 +1,7 @@
 use Rattle.std.proofs.Common.{rules, ◌≡◌, Some}
 use Rattle.std.specs.Prelude.{slice_get}
 use Rattle.std.proofs.lemmas.Result.{IfOk-weaker}
-use Rattle.hir_counts.specs.Sought.{number_in}
+use Rattle.hir_counts.specs.Own.{number_in}
 use Rattle.hir_counts.proofs.Fits.{body_says}
 use Rattle.hir_counts.proofs.counts.maybe_body_fits.Goals as goal
 

@@ -1,5 +1,5 @@
-use Rattle.hir_facts.specs.Uses.{goal_uses}
-use Rattle.hir_ids.proofs.Uses.{gathered_after}
+use Rattle.hir_counts.specs.Words.{goal_uses}
+use Rattle.hir_counts.proofs.Words.{gathered_after}
 use Rattle.hir_counts.proofs.goal_uses.push_goals.Goals as goal
 
 pub loop-goal-preserved : goal.loop-goal-preserved

@@ -1,5 +1,5 @@
-use Rattle.hir_facts.specs.Uses.{goals_uses}
-use Rattle.hir_ids.proofs.Uses.{gathered_after}
+use Rattle.hir_counts.specs.Words.{goals_uses}
+use Rattle.hir_counts.proofs.Words.{gathered_after}
 use Rattle.hir_counts.proofs.goal_uses.push_goals_of.Goals as goal
 
 pub loop-item-preserved : goal.loop-item-preserved

@@ -1,6 +1,6 @@
 use Rattle.std.proofs.Common.{◌≡◌, ◌++◌, take}
 use Rattle.std.specs.Prelude.{flat_map}
-use Rattle.hir_facts.specs.Uses.{goals_uses}
+use Rattle.hir_counts.specs.Words.{goals_uses}
 use Rattle.hir_counts.proofs.goal_uses.push_goals_of.Given as goal
 
 abbrev pub invariant-loop-item : goal.invariant-loop-item

@@ -1,6 +1,6 @@
 use Rattle.std.proofs.Common.{◌≡◌, ◌++◌, take}
 use Rattle.std.specs.Prelude.{flat_map}
-use Rattle.hir_facts.specs.Uses.{impl_uses}
+use Rattle.hir_counts.specs.Words.{impl_uses}
 use Rattle.hir_counts.proofs.goal_uses.push_impls.Given as goal
 
 abbrev pub invariant-loop-item : goal.invariant-loop-item

@@ -1,5 +1,5 @@
-use Rattle.hir_types.specs.Types.{depth}
-use Rattle.hir_counts.specs.Measures.{AreMeasures}
+use Rattle.hir_counts.specs.Words.{depth}
+use Rattle.hir_counts.specs.Own.{AreMeasures}
 use Rattle.hir_counts.proofs.sizes.depths_of.Given as goal
 
 abbrev pub invariant-loop-ty : goal.invariant-loop-ty

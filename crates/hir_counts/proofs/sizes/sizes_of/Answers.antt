@@ -1,8 +1,8 @@
 use Rattle.std.proofs.Common.{◌≡◌, length, Some, arith, refl}
 use Rattle.std.specs.Prelude.{slice_get}
 use Rattle.std.proofs.lemmas.Option.{slice_get_read}
-use Rattle.hir_types.specs.Types.{size}
-use Rattle.hir_counts.specs.Measures.{size_by}
+use Rattle.hir_counts.specs.Words.{size}
+use Rattle.hir_counts.specs.Own.{size_by}
 use Rattle.hir_counts.proofs.TypeMeasures.{measures_none, measures_more, size_measures, before_here}
 use Rattle.hir_counts.proofs.sizes.sizes_of.Goals as goal
 

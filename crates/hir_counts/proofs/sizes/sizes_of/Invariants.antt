@@ -1,5 +1,5 @@
-use Rattle.hir_types.specs.Types.{size}
-use Rattle.hir_counts.specs.Measures.{AreMeasures}
+use Rattle.hir_counts.specs.Words.{size}
+use Rattle.hir_counts.specs.Own.{AreMeasures}
 use Rattle.hir_counts.proofs.sizes.sizes_of.Given as goal
 
 abbrev pub invariant-loop-ty : goal.invariant-loop-ty

@@ -1,7 +1,7 @@
 use Rattle.std.proofs.Common.{◌≡◌, length, Some, arith, refl}
 use Rattle.std.specs.Prelude.{slice_get}
 use Rattle.std.proofs.lemmas.Option.{slice_get_read}
-use Rattle.hir_counts.specs.Sought.{own_of}
+use Rattle.hir_counts.specs.Own.{own_of}
 use Rattle.hir_counts.proofs.TypeMeasures.{before_here}
 use Rattle.hir_counts.proofs.StandingTypes.{mosts_none, mosts_more}
 use Rattle.hir_counts.proofs.standing.mosts_of.Goals as goal

@@ -1,4 +1,4 @@
-use Rattle.hir_counts.specs.Sought.{own_of, AreMosts}
+use Rattle.hir_counts.specs.Own.{own_of, AreMosts}
 use Rattle.hir_counts.proofs.standing.mosts_of.Given as goal
 
 abbrev pub invariant-loop-ty : goal.invariant-loop-ty

@@ -1,5 +1,5 @@
-use Rattle.hir_facts.specs.Uses.{body_uses}
-use Rattle.hir_ids.proofs.Uses.{gathered_after}
+use Rattle.hir_counts.specs.Words.{body_uses}
+use Rattle.hir_counts.proofs.Words.{gathered_after}
 use Rattle.hir_counts.proofs.uses.push_bodies.Goals as goal
 
 pub loop-body-preserved : goal.loop-body-preserved

@@ -1,5 +1,5 @@
-use Rattle.hir_facts.specs.Uses.{fn_uses}
-use Rattle.hir_ids.proofs.Uses.{gathered_after}
+use Rattle.hir_counts.specs.Words.{fn_uses}
+use Rattle.hir_counts.proofs.Words.{gathered_after}
 use Rattle.hir_counts.proofs.uses.push_fns.Goals as goal
 
 pub loop-function-preserved : goal.loop-function-preserved

@@ -1,6 +1,6 @@
 use Rattle.std.proofs.Common.{◌≡◌, ◌++◌, take}
 use Rattle.std.specs.Prelude.{flat_map}
-use Rattle.hir_facts.specs.Uses.{fn_uses}
+use Rattle.hir_counts.specs.Words.{fn_uses}
 use Rattle.hir_counts.proofs.uses.push_fns.Given as goal
 
 abbrev pub invariant-loop-function : goal.invariant-loop-function

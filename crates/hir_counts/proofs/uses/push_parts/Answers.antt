@@ -1,5 +1,5 @@
-use Rattle.hir_facts.specs.Uses.{type_uses}
-use Rattle.hir_ids.proofs.Uses.{gathered_after}
+use Rattle.hir_counts.specs.Words.{type_uses}
+use Rattle.hir_counts.proofs.Words.{gathered_after}
 use Rattle.hir_counts.proofs.uses.push_parts.Goals as goal
 
 pub loop-ty-preserved : goal.loop-ty-preserved

@@ -1,6 +1,6 @@
 use Rattle.std.proofs.Common.{◌≡◌, ◌++◌, take}
 use Rattle.std.specs.Prelude.{flat_map}
-use Rattle.hir_facts.specs.Uses.{type_uses}
+use Rattle.hir_counts.specs.Words.{type_uses}
 use Rattle.hir_counts.proofs.uses.push_parts.Given as goal
 
 abbrev pub invariant-loop-ty : goal.invariant-loop-ty

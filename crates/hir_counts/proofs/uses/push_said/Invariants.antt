@@ -1,6 +1,6 @@
 use Rattle.std.proofs.Common.{◌≡◌, ◌++◌, take}
 use Rattle.std.specs.Prelude.{flat_map}
-use Rattle.hir_facts.specs.Uses.{mention_uses}
+use Rattle.hir_counts.specs.Words.{mention_uses}
 use Rattle.hir_counts.proofs.uses.push_said.Given as goal
 
 abbrev pub invariant-loop-said : goal.invariant-loop-said

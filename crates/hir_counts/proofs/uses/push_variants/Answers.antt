@@ -1,5 +1,5 @@
-use Rattle.hir_facts.specs.Uses.{variant_uses}
-use Rattle.hir_ids.proofs.Uses.{gathered_after}
+use Rattle.hir_counts.specs.Words.{variant_uses}
+use Rattle.hir_counts.proofs.Words.{gathered_after}
 use Rattle.hir_counts.proofs.uses.push_variants.Goals as goal
 
 pub loop-variant-preserved : goal.loop-variant-preserved

@@ -1,6 +1,6 @@
 use Rattle.std.proofs.Common.{◌≡◌, ◌++◌, take}
 use Rattle.std.specs.Prelude.{flat_map}
-use Rattle.hir_facts.specs.Uses.{variant_uses}
+use Rattle.hir_counts.specs.Words.{variant_uses}
 use Rattle.hir_counts.proofs.uses.push_variants.Given as goal
 
 abbrev pub invariant-loop-variant : goal.invariant-loop-variant

@@ -1,7 +1,6 @@
 use Rattle.std.proofs.Common.{◌≡◌, ◌<◌, arith, get_or, IfOk, refl, sym, ap, subst, ◌∙◌}
 use Rattle.hir_types.specs.declared.ty.Ty.TheVariants as ty
-use Rattle.hir_raw.specs.Hidden.{opened_by}
-use Rattle.hir_raw.specs.Opened.{stays_if_none}
+use Rattle.hir_facts.specs.Words.{opened_by, stays_if_none}
 use Rattle.hir_facts.proofs.Lowering.{part_below, lowered_here, tuple_here, args_here}
 use Rattle.hir_facts.proofs.lower.+lower.Goals as goal
 

@@ -1,7 +1,6 @@
 use Rattle.std.proofs.Common.{◌≡◌, map, take}
 use Rattle.hir_types.specs.declared.ty.GenericArg.TheVariants as arg
-use Rattle.hir_raw.specs.WrittenTypes.{lowered}
-use Rattle.hir_raw.specs.Hidden.{opened}
+use Rattle.hir_facts.specs.Words.{lowered, opened}
 use Rattle.hir_facts.proofs.lower.+lower.Given as goal
 
 abbrev pub decreases-lower : goal.decreases-lower

@@ -1,4 +1,4 @@
-use Rattle.hir_facts.specs.LawfulFacts.{type_ids}
+use Rattle.hir_facts.specs.Own.{type_ids}
 use Rattle.hir_facts.proofs.lower.lower_opened.Goals as goal
 
 pub lower-requires-clause-before : goal.lower-requires-clause-before

@@ -1,5 +1,5 @@
 use Rattle.std.proofs.Common.{◌≡◌, ◌+◌, drop, option_map}
-use Rattle.hir_raw.specs.Hidden.{place_in}
+use Rattle.hir_facts.specs.Words.{place_in}
 use Rattle.hir_facts.proofs.lower.place_in.Given as goal
 
 abbrev pub invariant-loop-place : goal.invariant-loop-place

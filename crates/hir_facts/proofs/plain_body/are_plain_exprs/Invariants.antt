@@ -1,4 +1,4 @@
-use Rattle.hir_facts.specs.Plain.{IsPlainExpr}
+use Rattle.hir_facts.specs.Own.{IsPlainExpr}
 use Rattle.hir_facts.proofs.Broken.{Passed}
 use Rattle.hir_facts.proofs.plain_body.are_plain_exprs.Given as goal
 

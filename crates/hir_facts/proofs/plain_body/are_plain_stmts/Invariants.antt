@@ -1,4 +1,4 @@
-use Rattle.hir_facts.specs.Plain.{IsPlainStmt}
+use Rattle.hir_facts.specs.Own.{IsPlainStmt}
 use Rattle.hir_facts.proofs.Broken.{Passed}
 use Rattle.hir_facts.proofs.plain_body.are_plain_stmts.Given as goal
 

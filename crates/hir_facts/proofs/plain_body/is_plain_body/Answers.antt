@@ -1,6 +1,6 @@
 use Rattle.std.proofs.Common.{ℕ}
 use Rattle.hir_types.specs.declared.ids.DefWithBodyId.TheVariants as def
-use Rattle.hir_raw.specs.Scope.{params_of}
+use Rattle.hir_facts.specs.Words.{params_of}
 use Rattle.hir_facts.proofs.Callees.{body_plain, body_looks_plain, body_lets_fit, body_literals_fit}
 use Rattle.hir_facts.proofs.plain_body.is_plain_body.Goals as goal
 

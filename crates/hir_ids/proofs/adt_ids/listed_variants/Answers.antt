@@ -1,4 +1,4 @@
-use Rattle.hir_facts.specs.Ids.{adt_variants}
+use Rattle.hir_ids.specs.Words.{adt_variants}
 use Rattle.hir_ids.proofs.Uses.{gathered_more}
 use Rattle.hir_ids.proofs.adt_ids.listed_variants.Goals as goal
 

@@ -1,5 +1,5 @@
 use Rattle.std.proofs.Common.{◌≡◌, ◌∙◌}
-use Rattle.hir_raw.specs.Mentions.{body_said}
+use Rattle.hir_ids.specs.Words.{body_said}
 use Rattle.hir_ids.proofs.body_ids.all_exist.Goals as goal
 
 pub returns : goal.returns

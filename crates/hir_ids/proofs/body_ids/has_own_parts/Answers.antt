@@ -1,6 +1,5 @@
 use Rattle.std.proofs.Common.{◌≡◌, ◌∙◌}
-use Rattle.hir_raw.specs.Order.{body_parts}
-use Rattle.hir_schedule.specs.Nodes.{nodes}
+use Rattle.hir_ids.specs.Words.{body_parts, nodes}
 use Rattle.hir_ids.proofs.body_ids.has_own_parts.Goals as goal
 
 pub returns : goal.returns

@@ -1,7 +1,6 @@
 use Rattle.std.proofs.Common.{◌∙◌, sym, subst}
-use Rattle.hir_raw.specs.Order.{pat_parts}
-use Rattle.hir_schedule.specs.Nodes.{nodes, AllInBody}
-use Rattle.hir_facts.proofs.Broken.{passed_none, passed_more, not_all}
+use Rattle.hir_ids.specs.Words.{pat_parts, nodes, AllInBody}
+use Rattle.hir_ids.proofs.Words.{passed_none, passed_more, not_all}
 use Rattle.hir_ids.proofs.body_ids.have_pat_parts.Goals as goal
 
 pub loop-pat-init : goal.loop-pat-init

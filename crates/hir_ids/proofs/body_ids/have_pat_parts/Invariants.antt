@@ -1,6 +1,5 @@
-use Rattle.hir_raw.specs.Order.{pat_parts}
-use Rattle.hir_schedule.specs.Nodes.{nodes, AllInBody}
-use Rattle.hir_facts.proofs.Broken.{Passed}
+use Rattle.hir_ids.specs.Words.{pat_parts, nodes, AllInBody}
+use Rattle.hir_ids.proofs.Words.{Passed}
 use Rattle.hir_ids.proofs.body_ids.have_pat_parts.Given as goal
 
 abbrev pub invariant-loop-pat : goal.invariant-loop-pat

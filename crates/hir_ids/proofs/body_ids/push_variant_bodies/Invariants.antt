@@ -1,5 +1,5 @@
 use Rattle.std.proofs.Common.{◌≡◌, ◌++◌, take, map}
-use Rattle.hir_facts.specs.Ids.{variant_body}
+use Rattle.hir_ids.specs.Words.{variant_body}
 use Rattle.hir_ids.proofs.body_ids.push_variant_bodies.Given as goal
 
 abbrev pub invariant-loop-variant : goal.invariant-loop-variant

@@ -1,5 +1,5 @@
 use Rattle.std.proofs.Common.{rules}
-use Rattle.hir_facts.proofs.Broken.{first_breaks}
+use Rattle.hir_ids.proofs.Words.{first_breaks}
 use Rattle.hir_ids.proofs.carried.first_other.Goals as goal
 
 pub returns-else-is_empty : goal.returns-else-is_empty

@@ -1,4 +1,4 @@
-use Rattle.hir_facts.specs.GoalIds.{trait_aliases}
+use Rattle.hir_ids.specs.Words.{trait_aliases}
 use Rattle.hir_ids.proofs.Uses.{gathered_more}
 use Rattle.hir_ids.proofs.goal_ids.listed_aliases.Goals as goal
 

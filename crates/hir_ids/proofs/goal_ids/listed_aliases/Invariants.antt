@@ -1,5 +1,5 @@
 use Rattle.std.proofs.Common.{◌≡◌, take}
-use Rattle.hir_facts.specs.GoalIds.{listed_aliases}
+use Rattle.hir_ids.specs.Words.{listed_aliases}
 use Rattle.hir_ids.proofs.goal_ids.listed_aliases.Given as goal
 
 abbrev pub invariant-loop-item : goal.invariant-loop-item

@@ -1,4 +1,4 @@
-use Rattle.hir_ids.specs.Namers.{AreNamers}
+use Rattle.hir_ids.specs.Own.{AreNamers}
 use Rattle.hir_ids.proofs.namers.namers_of.Given as goal
 
 abbrev pub invariant-loop-k : goal.invariant-loop-k

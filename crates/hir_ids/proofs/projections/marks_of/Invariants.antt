@@ -1,4 +1,4 @@
-use Rattle.hir_ids.specs.Marked.{AreMarked}
+use Rattle.hir_ids.specs.Own.{AreMarked}
 use Rattle.hir_ids.proofs.projections.marks_of.Given as goal
 
 abbrev pub invariant-loop-ty : goal.invariant-loop-ty

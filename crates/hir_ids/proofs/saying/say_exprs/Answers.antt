@@ -1,4 +1,4 @@
-use Rattle.hir_raw.specs.Mentions.{expr_said}
+use Rattle.hir_ids.specs.Words.{expr_said}
 use Rattle.hir_ids.proofs.Told.{told_more}
 use Rattle.hir_ids.proofs.saying.say_exprs.Goals as goal
 

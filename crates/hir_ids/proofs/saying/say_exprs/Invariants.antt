@@ -1,5 +1,5 @@
 use Rattle.std.proofs.Common.{◌≡◌, ◌++◌, take}
-use Rattle.hir_raw.specs.Mentions.{each, expr_said}
+use Rattle.hir_ids.specs.Words.{each, expr_said}
 use Rattle.hir_ids.proofs.saying.say_exprs.Given as goal
 
 abbrev pub invariant-loop-e : goal.invariant-loop-e

@@ -1,4 +1,4 @@
-use Rattle.hir_raw.specs.Mentions.{pat_said}
+use Rattle.hir_ids.specs.Words.{pat_said}
 use Rattle.hir_ids.proofs.Told.{told_more}
 use Rattle.hir_ids.proofs.saying.say_pats.Goals as goal
 

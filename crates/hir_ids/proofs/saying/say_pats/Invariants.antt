@@ -1,5 +1,5 @@
 use Rattle.std.proofs.Common.{◌≡◌, ◌++◌, take}
-use Rattle.hir_raw.specs.Mentions.{each, pat_said}
+use Rattle.hir_ids.specs.Words.{each, pat_said}
 use Rattle.hir_ids.proofs.saying.say_pats.Given as goal
 
 abbrev pub invariant-loop-p : goal.invariant-loop-p

@@ -1,4 +1,4 @@
-use Rattle.hir_raw.specs.Mentions.{stmt_mentions}
+use Rattle.hir_ids.specs.Words.{stmt_mentions}
 use Rattle.hir_ids.proofs.Told.{said_more}
 use Rattle.hir_ids.proofs.saying.say_stmts.Goals as goal
 

@@ -1,4 +1,4 @@
-use Rattle.hir_facts.proofs.Broken.{passed_none, passed_more, passed_all, breaks_here, read_at}
+use Rattle.hir_ids.proofs.Words.{passed_none, passed_more, passed_all, breaks_here, read_at}
 use Rattle.hir_ids.proofs.test.first_broken.Goals as goal
 
 pub loop-at-init : goal.loop-at-init

@@ -1,4 +1,4 @@
-use Rattle.hir_facts.proofs.Broken.{Passed}
+use Rattle.hir_ids.proofs.Words.{Passed}
 use Rattle.hir_ids.proofs.test.first_broken.Given as goal
 
 abbrev pub invariant-loop-at : goal.invariant-loop-at

@@ -1,5 +1,5 @@
-use Rattle.hir_facts.specs.Sizes.{ListIsShort}
-use Rattle.hir_ids.proofs.Telling.{mentions_tell}
+use Rattle.hir_laws.specs.Words.{ListIsShort}
+use Rattle.hir_laws.proofs.Words.{mentions_tell}
 use Rattle.hir_laws.proofs.body_sizes.has_short_lists.Goals as goal
 
 pub returns : goal.returns

@@ -1,6 +1,6 @@
 use Rattle.std.proofs.Common.{rules}
-use Rattle.hir_facts.specs.Lawful.{tests}
-use Rattle.hir_laws.specs.Refused.{Refuses}
+use Rattle.hir_laws.specs.Words.{tests}
+use Rattle.hir_laws.specs.Own.{Refuses}
 use Rattle.hir_laws.proofs.LateLaws.{by_sizes, by_limits, by_lang, by_literals, by_holes}
 use Rattle.hir_laws.proofs.checks.check.Goals as goal
 

@@ -1,5 +1,5 @@
 use Rattle.std.specs.Prelude.{IsTrue}
-use Rattle.hir_facts.specs.Carried.{is_carried_body}
+use Rattle.hir_laws.specs.Words.{is_carried_body}
 use Rattle.hir_laws.proofs.Allowed.{allowed}
 use Rattle.hir_laws.proofs.checks.check_bodies.Goals as goal
 

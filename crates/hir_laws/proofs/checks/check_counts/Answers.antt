@@ -1,4 +1,4 @@
-use Rattle.hir_facts.specs.Counts.{AdtFits, VariantFits, FnFits, TraitFits, AliasFits, ImplFits}
+use Rattle.hir_laws.specs.Words.{AdtFits, VariantFits, FnFits, TraitFits, AliasFits, ImplFits}
 use Rattle.hir_laws.proofs.Allowed.{allowed}
 use Rattle.hir_laws.proofs.checks.check_counts.Goals as goal
 

@@ -1,4 +1,4 @@
-use Rattle.hir_facts.specs.Uses.{HoleFits}
+use Rattle.hir_laws.specs.Words.{HoleFits}
 use Rattle.hir_laws.proofs.Allowed.{allowed}
 use Rattle.hir_laws.proofs.checks.check_holes.Goals as goal
 

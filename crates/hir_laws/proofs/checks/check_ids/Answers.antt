@@ -1,5 +1,4 @@
-use Rattle.hir_facts.specs.Ids.{TypeIdsExist, ParentBefore, AdtIdsExist, VariantIdsExist, FnIdsExist, BodyIdsExist}
-use Rattle.hir_facts.specs.GoalIds.{TraitIdsExist, AliasIdsExist, ImplIdsExist, LangExists}
+use Rattle.hir_laws.specs.Words.{TypeIdsExist, ParentBefore, AdtIdsExist, VariantIdsExist, FnIdsExist, BodyIdsExist, TraitIdsExist, AliasIdsExist, ImplIdsExist, LangExists}
 use Rattle.hir_laws.proofs.Allowed.{allowed}
 use Rattle.hir_laws.proofs.checks.check_ids.Goals as goal
 

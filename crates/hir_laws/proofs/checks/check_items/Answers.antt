@@ -1,6 +1,5 @@
 use Rattle.std.specs.Prelude.{IsTrue}
-use Rattle.hir_facts.specs.Carried.{is_carried_written_type, is_carried_adt, is_carried_fn}
-use Rattle.hir_facts.specs.Projections.{VariantIsCarried}
+use Rattle.hir_laws.specs.Words.{is_carried_written_type, is_carried_adt, is_carried_fn, VariantIsCarried}
 use Rattle.hir_laws.proofs.Allowed.{allowed}
 use Rattle.hir_laws.proofs.checks.check_items.Goals as goal
 

@@ -1,5 +1,4 @@
-use Rattle.hir_facts.specs.Fields.{NamesFit}
-use Rattle.hir_facts.specs.Literals.{LiteralsFit}
+use Rattle.hir_laws.specs.Words.{NamesFit, LiteralsFit}
 use Rattle.hir_laws.proofs.Allowed.{allowed}
 use Rattle.hir_laws.proofs.checks.check_literals.Goals as goal
 

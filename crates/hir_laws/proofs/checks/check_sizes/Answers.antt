@@ -1,4 +1,4 @@
-use Rattle.hir_facts.specs.Sizes.{IsEarly, TypeIsSmall, AdtIsSmall, VariantIsSmall, FnIsSmall, TraitIsSmall, AliasIsSmall, ImplIsSmall, BodyIsSmall}
+use Rattle.hir_laws.specs.Words.{IsEarly, TypeIsSmall, AdtIsSmall, VariantIsSmall, FnIsSmall, TraitIsSmall, AliasIsSmall, ImplIsSmall, BodyIsSmall}
 use Rattle.hir_laws.proofs.Allowed.{allowed}
 use Rattle.hir_laws.proofs.checks.check_sizes.Goals as goal
 

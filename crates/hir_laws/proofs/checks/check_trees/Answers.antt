@@ -1,5 +1,5 @@
 use Rattle.hir_laws.proofs.Allowed.{allowed}
-use Rattle.hir_facts.specs.Trees.{IsWellFormed}
+use Rattle.hir_laws.specs.Words.{IsWellFormed}
 use Rattle.hir_laws.proofs.checks.check_trees.Goals as goal
 
 pub returns-clause-ok : goal.returns-clause-ok

@@ -1,6 +1,6 @@
 use Rattle.std.proofs.Common.{refl}
-use Rattle.hir_laws.specs.NewNames.{IsNew}
-use Rattle.hir_facts.proofs.Broken.{passed_more, passed_all}
+use Rattle.hir_laws.specs.Own.{IsNew}
+use Rattle.hir_laws.proofs.Words.{passed_more, passed_all}
 use Rattle.hir_laws.proofs.FieldNames.{new_here}
 use Rattle.hir_laws.proofs.fields.are_distinct.Goals as goal
 

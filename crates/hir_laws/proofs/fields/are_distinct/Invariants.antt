@@ -1,5 +1,5 @@
-use Rattle.hir_laws.specs.NewNames.{IsNew}
-use Rattle.hir_facts.proofs.Broken.{Passed}
+use Rattle.hir_laws.specs.Own.{IsNew}
+use Rattle.hir_laws.proofs.Words.{Passed}
 use Rattle.hir_laws.proofs.fields.are_distinct.Given as goal
 
 abbrev pub invariant-loop-at : goal.invariant-loop-at

@@ -1,7 +1,7 @@
 use Rattle.std.specs.Prelude.{slice_index_or}
-use Rattle.hir_ids.specs.declared.namers.Namers.TheVariants.{Nobody}
-use Rattle.hir_laws.specs.InBits.{ExprIsInBits}
-use Rattle.hir_facts.proofs.Broken.{Passed}
+use Rattle.hir_laws.specs.Words.hir_ids.declared.namers.Namers.TheVariants.{Nobody}
+use Rattle.hir_laws.specs.Own.{ExprIsInBits}
+use Rattle.hir_laws.proofs.Words.{Passed}
 use Rattle.hir_laws.proofs.literals.are_in_bits.Given as goal
 
 abbrev pub invariant-loop-e : goal.invariant-loop-e

@@ -1,6 +1,6 @@
 use Rattle.std.proofs.Common.{◌≡◌, ◌∙◌, map, ap, length}
 use Rattle.std.proofs.lemmas.List.{length-map}
-use Rattle.hir_laws.specs.InBits.{literal_of}
+use Rattle.hir_laws.specs.Own.{literal_of}
 use Rattle.hir_laws.proofs.literals.patterns_of.Goals as goal
 
 pub returns : goal.returns

@@ -1,5 +1,5 @@
 use Rattle.std.proofs.Common.{◌≡◌, ◌∙◌}
-use Rattle.hir_raw.specs.Mentions.{body_said}
+use Rattle.hir_laws.specs.Words.{body_said}
 use Rattle.hir_laws.proofs.Scoping.{scope_says}
 use Rattle.hir_laws.proofs.scopes.are_in_scope.Goals as goal
 

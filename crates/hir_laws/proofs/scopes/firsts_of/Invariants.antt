@@ -1,4 +1,4 @@
-use Rattle.hir_laws.specs.Firsts.{AreFirsts}
+use Rattle.hir_laws.specs.Own.{AreFirsts}
 use Rattle.hir_laws.proofs.scopes.firsts_of.Given as goal
 
 abbrev pub invariant-loop-said : goal.invariant-loop-said

@@ -1,7 +1,7 @@
 use Rattle.std.proofs.Common.{ℕ, ◌<◌}
 use Rattle.std.specs.Prelude.{IsTrue, slice_index_or}
-use Rattle.hir_ids.specs.declared.namers.Namers.TheVariants.{Nobody}
-use Rattle.hir_laws.specs.Binders.{is_self, is_bound_once}
+use Rattle.hir_laws.specs.Words.hir_ids.declared.namers.Namers.TheVariants.{Nobody}
+use Rattle.hir_laws.specs.Own.{is_self, is_bound_once}
 use Rattle.hir_laws.proofs.trees.are_bound_once.Given as goal
 
 abbrev pub invariant-loop-v : goal.invariant-loop-v

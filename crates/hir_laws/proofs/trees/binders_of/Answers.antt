@@ -1,6 +1,6 @@
 use Rattle.std.proofs.Common.{◌≡◌, ◌∙◌, map, ap, length}
 use Rattle.std.proofs.lemmas.List.{length-map}
-use Rattle.hir_laws.specs.Binders.{bound_binding}
+use Rattle.hir_laws.specs.Own.{bound_binding}
 use Rattle.hir_laws.proofs.trees.binders_of.Goals as goal
 
 pub returns : goal.returns

@@ -1,8 +1,7 @@
 use Rattle.std.proofs.Common.{◌≡◌, ◌∙◌, ap, sym, subst, length, List, Bool, Some, arith, refl}
 use Rattle.std.specs.Prelude.{slice_get}
 use Rattle.std.proofs.lemmas.Option.{slice_get_read, slice_get_within}
-use Rattle.hir_raw.specs.declared.raw.RawFn.{RawFn}
-use Rattle.hir_facts.specs.PlainMarks.{ArePlainNodes}
+use Rattle.hir_plain.specs.Words.{RawFn, ArePlainNodes}
 use Rattle.hir_plain.proofs.FnMarks.{fns_more}
 use Rattle.hir_plain.proofs.plain.plain_marks.Goals as goal
 

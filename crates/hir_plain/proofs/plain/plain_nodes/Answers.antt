@@ -1,9 +1,8 @@
 use Rattle.std.proofs.Common.{◌≡◌, ◌∙◌, sym, subst, ℕ, List, Bool}
 use Rattle.std.proofs.lemmas.Result.{IfOk-weaker}
-use Rattle.hir_schedule.specs.Graph.{KidsFit}
-use Rattle.hir_plain.specs.Spread.{AreGood}
-use Rattle.hir_plain.specs.PlainGraph.{fine_nodes}
-use Rattle.hir_facts.proofs.InRange.{few_types}
+use Rattle.hir_plain.specs.Words.{KidsFit}
+use Rattle.hir_plain.specs.Own.{AreGood, fine_nodes}
+use Rattle.hir_plain.proofs.Words.{few_types}
 use Rattle.hir_plain.proofs.PlainGraph.{graph_fits, plain_nodes}
 use Rattle.hir_plain.proofs.plain.plain_nodes.Goals as goal
 

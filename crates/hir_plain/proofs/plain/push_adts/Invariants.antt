@@ -1,5 +1,5 @@
 use Rattle.std.proofs.Common.{◌≡◌, ◌++◌, take, map}
-use Rattle.hir_plain.specs.PlainGraph.{adt_children}
+use Rattle.hir_plain.specs.Own.{adt_children}
 use Rattle.hir_plain.proofs.plain.push_adts.Given as goal
 
 abbrev pub invariant-loop-adt : goal.invariant-loop-adt

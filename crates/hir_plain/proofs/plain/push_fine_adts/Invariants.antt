@@ -1,5 +1,5 @@
 use Rattle.std.proofs.Common.{◌≡◌, ◌++◌, take, map}
-use Rattle.hir_facts.specs.Plain.{has_plain_params}
+use Rattle.hir_plain.specs.Words.{has_plain_params}
 use Rattle.hir_plain.proofs.plain.push_fine_adts.Given as goal
 
 abbrev pub invariant-loop-adt : goal.invariant-loop-adt

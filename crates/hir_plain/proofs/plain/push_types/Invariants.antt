@@ -1,5 +1,5 @@
 use Rattle.std.proofs.Common.{◌≡◌, ◌++◌, take, map, length}
-use Rattle.hir_plain.specs.PlainGraph.{type_children}
+use Rattle.hir_plain.specs.Own.{type_children}
 use Rattle.hir_plain.proofs.plain.push_types.Given as goal
 
 abbrev pub invariant-loop-ty : goal.invariant-loop-ty

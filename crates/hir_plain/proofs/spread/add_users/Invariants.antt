@@ -1,5 +1,5 @@
 use Rattle.std.proofs.Common.{take}
-use Rattle.hir_plain.specs.Spread.{AddsUser}
+use Rattle.hir_plain.specs.Own.{AddsUser}
 use Rattle.hir_plain.proofs.spread.add_users.Given as goal
 
 abbrev pub invariant-loop-node : goal.invariant-loop-node

@@ -1,7 +1,7 @@
 use Rattle.std.proofs.Common.{◌≡◌, ◌<◌, ◌+◌, ◌∙◌, ap, sym, subst, fold, length, List, [], ℕ, arith}
 use Rattle.std.specs.Prelude.{slice_get, Some}
 use Rattle.std.proofs.lemmas.List.{get_or_read}
-use Rattle.hir_plain.specs.Spread.{Marks, marks_of, unmarked, users_at}
+use Rattle.hir_plain.specs.Own.{Marks, marks_of, unmarked, users_at}
 use Rattle.hir_plain.proofs.Spreading.{Spreading, Taking, marked_count, spreading_begun, users_inside, node_inside, spreading_on, fewer_left, after}
 use Rattle.hir_plain.proofs.spread.good_nodes.Goals as goal
 

@@ -1,5 +1,5 @@
 use Rattle.std.proofs.Common.{◌+◌, length}
-use Rattle.hir_plain.specs.Spread.{marks_of}
+use Rattle.hir_plain.specs.Own.{marks_of}
 use Rattle.hir_plain.proofs.Spreading.{Spreading, marked_count}
 use Rattle.hir_plain.proofs.spread.good_nodes.Given as goal
 

@@ -1,8 +1,8 @@
 use Rattle.std.proofs.Common.{◌≡◌, ◌<◌, ◌∙◌, ap, subst, length, List, [], ℕ, arith}
 use Rattle.std.proofs.lemmas.List.{get_or_read}
 use Rattle.std.specs.Prelude.{slice_get, Some}
-use Rattle.hir_schedule.specs.Graph.{kids_of, Edge}
-use Rattle.hir_plain.specs.Spread.{AddsUser}
+use Rattle.hir_plain.specs.Words.{kids_of, Edge}
+use Rattle.hir_plain.specs.Own.{AddsUser}
 use Rattle.hir_plain.proofs.UsersOf.{users_more}
 use Rattle.hir_plain.proofs.spread.users_of.Goals as goal
 

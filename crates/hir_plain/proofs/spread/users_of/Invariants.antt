@@ -1,4 +1,4 @@
-use Rattle.hir_plain.specs.Spread.{AreUsers}
+use Rattle.hir_plain.specs.Own.{AreUsers}
 use Rattle.hir_plain.proofs.spread.users_of.Given as goal
 
 abbrev pub invariant-loop-node : goal.invariant-loop-node

@@ -1,6 +1,5 @@
 use Rattle.std.proofs.Common.{rules}
-use Rattle.hir_raw.specs.Scope.{Scope, types_scope}
-use Rattle.hir_raw.specs.Fitting.{ty_fits_tuple, ty_fits_adt, ty_fits_fndef, fits_alias, fits_inputs}
+use Rattle.hir_raw.specs.Own.{Scope, types_scope, ty_fits_tuple, ty_fits_adt, ty_fits_fndef, fits_alias, fits_inputs}
 use Rattle.hir_raw.proofs.fit.+fit.Goals as goal
 
 pub ty_fits-returns-in-Tuple : goal.ty_fits-returns-in-Tuple

@@ -1,7 +1,6 @@
 use Rattle.std.proofs.Common.{◌≡◌, true, take}
 use Rattle.std.specs.List.{list_all}
-use Rattle.hir_raw.specs.Scope.{types_scope}
-use Rattle.hir_raw.specs.Fit.{ty_fits, arg_fits}
+use Rattle.hir_raw.specs.Own.{types_scope, ty_fits, arg_fits}
 use Rattle.hir_raw.proofs.fit.+fit.Given as goal
 
 abbrev pub invariant-all_fit-loop-ty : goal.invariant-all_fit-loop-ty

@@ -1,6 +1,6 @@
 use Rattle.std.proofs.Common.{◌+◌, length, drop, refl, ap, sym, ◌∙◌}
 use Rattle.std.specs.Option.{option_and_then}
-use Rattle.hir_raw.specs.Hidden.{parts_aliases, less}
+use Rattle.hir_raw.specs.Own.{parts_aliases, less}
 use Rattle.hir_raw.proofs.Aliases.{read_alias, read_parts, read_past, one_taken, less_next}
 use Rattle.hir_raw.proofs.hidden.+less.Goals as goal
 

@@ -1,5 +1,5 @@
 use Rattle.std.proofs.Common.{◌≡◌, ◌+◌, ◌*◌, length, drop}
-use Rattle.hir_raw.specs.Hidden.{parts_aliases, less}
+use Rattle.hir_raw.specs.Own.{parts_aliases, less}
 use Rattle.hir_raw.proofs.hidden.+less.Given as goal
 
 abbrev pub decreases-less_aliases : goal.decreases-less_aliases

@@ -1,5 +1,5 @@
 use Rattle.std.proofs.Common.{◌++◌, append-nil, ap, sym, ◌∙◌}
-use Rattle.hir_raw.specs.Hidden.{parts_aliases}
+use Rattle.hir_raw.specs.Own.{parts_aliases}
 use Rattle.hir_raw.proofs.Aliases.{none_within, read_alias, read_parts, read_past}
 use Rattle.hir_raw.proofs.hidden.+push.Goals as goal
 

@@ -1,5 +1,5 @@
 use Rattle.std.proofs.Common.{◌≡◌, ◌+◌, ◌*◌, ◌++◌, take}
-use Rattle.hir_raw.specs.Hidden.{parts_aliases}
+use Rattle.hir_raw.specs.Own.{parts_aliases}
 use Rattle.hir_raw.proofs.hidden.+push.Given as goal
 
 abbrev pub decreases-push_aliases : goal.decreases-push_aliases

@@ -1,6 +1,6 @@
 use Rattle.std.proofs.Common.{length, ap, sym, ◌∙◌}
 use Rattle.std.specs.Option.{option_and_then}
-use Rattle.hir_raw.specs.Hidden.{aliases_at, aliases_in, less}
+use Rattle.hir_raw.specs.Own.{aliases_at, aliases_in, less}
 use Rattle.hir_raw.proofs.Aliases.{less_then}
 use Rattle.hir_raw.proofs.hidden.less_fn_aliases.Goals as goal
 

@@ -1,6 +1,6 @@
 use Rattle.std.proofs.Common.{◌+◌, length, drop, ap, sym, ◌∙◌}
 use Rattle.std.specs.Option.{option_and_then}
-use Rattle.hir_raw.specs.Hidden.{aliases_in, field_refs, less}
+use Rattle.hir_raw.specs.Own.{aliases_in, field_refs, less}
 use Rattle.hir_raw.proofs.Aliases.{less_field}
 use Rattle.hir_raw.proofs.hidden.less_variant_aliases.Goals as goal
 

@@ -1,5 +1,5 @@
 use Rattle.std.proofs.Common.{◌≡◌, length, drop}
-use Rattle.hir_raw.specs.Hidden.{aliases_in, field_refs, less}
+use Rattle.hir_raw.specs.Own.{aliases_in, field_refs, less}
 use Rattle.hir_raw.proofs.hidden.less_variant_aliases.Given as goal
 
 -- what is left is for those that are left

@@ -1,6 +1,6 @@
 use Rattle.std.proofs.Common.{◌≡◌, ◌++◌, take}
 use Rattle.std.specs.Prelude.{flat_map}
-use Rattle.hir_raw.specs.Hidden.{aliases_at}
+use Rattle.hir_raw.specs.Own.{aliases_at}
 use Rattle.hir_raw.proofs.hidden.push_fields.Given as goal
 
 abbrev pub invariant-loop-field : goal.invariant-loop-field

@@ -1,6 +1,6 @@
 use Rattle.std.proofs.Common.{◌≡◌, ◌++◌, take}
 use Rattle.std.specs.Prelude.{flat_map}
-use Rattle.hir_raw.specs.Lets.{stmt_aliases}
+use Rattle.hir_raw.specs.Own.{stmt_aliases}
 use Rattle.hir_raw.proofs.lets.push_expr.Given as goal
 
 abbrev pub invariant-loop-stmt : goal.invariant-loop-stmt

@@ -1,6 +1,5 @@
 use Rattle.std.proofs.Common.{length, option_map, ap, sym, ◌∙◌}
-use Rattle.hir_raw.specs.Scope.{callable_params, has_params, fn_arity}
-use Rattle.hir_raw.specs.Hidden.{fn_aliases, less}
+use Rattle.hir_raw.specs.Own.{callable_params, has_params, fn_arity, fn_aliases, less}
 use Rattle.hir_raw.proofs.Aliases.{counted_less}
 use Rattle.hir_raw.proofs.scope.callable_has_params.Goals as goal
 

@@ -1,7 +1,5 @@
 use Rattle.std.proofs.Common.{length, option_map, ap, ◌∙◌}
-use Rattle.hir_raw.specs.declared.raw.RawAdt.{RawAdt}
-use Rattle.hir_raw.specs.Scope.{has_params, variant_arity}
-use Rattle.hir_raw.specs.Hidden.{variant_aliases, less}
+use Rattle.hir_raw.specs.Own.{RawAdt, has_params, variant_arity, variant_aliases, less}
 use Rattle.hir_raw.proofs.Aliases.{counted_less}
 use Rattle.hir_raw.proofs.scope.ctor_has_params.Goals as goal
 

@@ -1,6 +1,6 @@
 use Rattle.std.proofs.Common.{◌≡◌, length, refl, sym, ap, ◌∙◌, subst}
 use Rattle.std.proofs.lemmas.Bool.{MatchBool-at_true, MatchBool-at_false}
-use Rattle.hir_schedule.specs.Visits.{Visited, visited_by, blank, entered, MeetsAgain}
+use Rattle.hir_schedule.specs.Own.{Visited, visited_by, blank, entered, MeetsAgain}
 use Rattle.hir_schedule.proofs.Walking.{Walking}
 use Rattle.hir_schedule.proofs.Numbers.{walking_begun, no_tree_again, tree_counted, numbering}
 use Rattle.hir_schedule.proofs.Steps.{Top, top_seen, top_inside, walking_step, less_left, empty_from_top}

@@ -1,5 +1,5 @@
 use Rattle.std.proofs.Common.{◌+◌, ◌*◌, length}
-use Rattle.hir_schedule.specs.Visits.{visited_by, unseen}
+use Rattle.hir_schedule.specs.Own.{visited_by, unseen}
 use Rattle.hir_schedule.proofs.Walking.{Walking}
 use Rattle.hir_schedule.proofs.graph.number_graph.Given as goal
 

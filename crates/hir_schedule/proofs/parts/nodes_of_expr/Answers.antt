@@ -1,8 +1,7 @@
 use Rattle.std.proofs.Common.{ap}
-use Rattle.hir_raw.specs.declared.raw.RawExpr.{RawExpr}
+use Rattle.hir_schedule.specs.Words.{RawExpr, expr_parts, tail}
 use Rattle.hir_raw.specs.declared.raw.RawExpr.TheVariants as expr
-use Rattle.hir_raw.specs.Order.{expr_parts, tail}
-use Rattle.hir_schedule.specs.Nodes.{nodes}
+use Rattle.hir_schedule.specs.Own.{nodes}
 use Rattle.hir_schedule.proofs.NodeLists.{block_pushed, tuple_pushed, kind_pushed}
 use Rattle.hir_schedule.proofs.parts.nodes_of_expr.Goals as goal
 use Rattle.hir_schedule.proofs.parts.nodes_of_expr.Goals.{in-Lit, in-Path, in-Block+in_ok-push_stmts-in-Block+in_ok-push_maybe-in-Block, in-Tuple+in_ok-push_exprs-in-Tuple, in-If+in_ok-push_if-in-If, in-Match+in_ok-push_match-in-Match, in-Call+in_ok-push_call-in-Call, in-Other}

@@ -1,7 +1,6 @@
 use Rattle.std.proofs.Common.{ap, sym, refl}
-use Rattle.hir_raw.specs.declared.raw.RawPat.{RawPat}
-use Rattle.hir_raw.specs.Order.{pat_parts}
-use Rattle.hir_schedule.specs.Nodes.{nodes}
+use Rattle.hir_schedule.specs.Words.{RawPat, pat_parts}
+use Rattle.hir_schedule.specs.Own.{nodes}
 use Rattle.hir_schedule.proofs.NodeLists.{pats_pushed}
 use Rattle.hir_schedule.proofs.parts.nodes_of_pat.Goals as goal
 use Rattle.hir_schedule.proofs.parts.nodes_of_pat.Goals.{in-Wild, in-Bind, in-Tuple+in_ok-push_pats-in-Tuple, in-TupleStruct+in_ok-push_pats-in-TupleStruct, in-Path, in-Lit+in_ok-push-in-Lit, in-Other}

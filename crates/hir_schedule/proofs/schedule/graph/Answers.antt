@@ -1,6 +1,6 @@
 use Rattle.std.proofs.Common.{◌∙◌, ap, sym, List}
 use Rattle.std.specs.Prelude.{slice_get}
-use Rattle.hir_types.specs.declared.ids.ExprOrPatId.{ExprOrPatId}
+use Rattle.hir_schedule.specs.Words.{ExprOrPatId}
 use Rattle.hir_schedule.proofs.Schedules.{listed_inside}
 use Rattle.hir_schedule.proofs.schedule.graph.Goals as goal
 

@@ -1,5 +1,5 @@
 use Rattle.std.proofs.Common.{◌≡◌, take, map}
-use Rattle.hir_schedule.specs.Nodes.{positions}
+use Rattle.hir_schedule.specs.Own.{positions}
 use Rattle.hir_schedule.proofs.schedule.graph.Given as goal
 
 abbrev pub invariant-loop-nodes : goal.invariant-loop-nodes

@@ -1,6 +1,6 @@
 use Rattle.std.proofs.Common.{◌≡◌, ◌++◌, take, map}
-use Rattle.hir_raw.specs.Order.{expr_parts}
-use Rattle.hir_schedule.specs.Nodes.{nodes}
+use Rattle.hir_schedule.specs.Words.{expr_parts}
+use Rattle.hir_schedule.specs.Own.{nodes}
 use Rattle.hir_schedule.proofs.schedule.push_expr_lists.Given as goal
 
 abbrev pub invariant-loop-expr : goal.invariant-loop-expr

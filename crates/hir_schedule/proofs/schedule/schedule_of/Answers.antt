@@ -1,7 +1,7 @@
 use Rattle.std.proofs.Common.{◌≡◌, ◌-◌, ◌∙◌, ℕ, List, ap, length, subst, sym, arith}
 use Rattle.std.proofs.lemmas.Result.{IfOk-weaker}
-use Rattle.hir_raw.specs.Order.{position, the_body}
-use Rattle.hir_schedule.specs.Graph.{KidsFit}
+use Rattle.hir_schedule.specs.Words.{position, the_body}
+use Rattle.hir_schedule.specs.Own.{KidsFit}
 use Rattle.hir_schedule.proofs.Bodies.{graph_size}
 use Rattle.hir_schedule.proofs.Schedules.{kids_fit, answer_from_graph}
 use Rattle.hir_schedule.proofs.schedule.schedule_of.Goals as goal

@@ -1,5 +1,5 @@
 use Rattle.std.proofs.Common.{◌≡◌, map, take, ◌+◌, ◌*◌}
-use Rattle.hir_types.specs.Subst.{replaced, arg_replaced, bound_replaced}
+use Rattle.hir_types.specs.Own.{replaced, arg_replaced, bound_replaced}
 use Rattle.hir_types.proofs.fold.+fold.Given as goal
 
 abbrev pub invariant-fold_types-loop-ty : goal.invariant-fold_types-loop-ty

@@ -1,6 +1,5 @@
 use Rattle.std.proofs.Common.{◌≡◌, ◌++◌, map, take}
-use Rattle.hir_types.specs.Terms.{arg_term}
-use Rattle.hir_types.specs.Outlines.{part_terms}
+use Rattle.hir_types.specs.Own.{arg_term, part_terms}
 use Rattle.hir_types.proofs.outline.push_args.Given as goal
 
 abbrev pub invariant-loop-arg : goal.invariant-loop-arg

@@ -1,6 +1,5 @@
 use Rattle.std.proofs.Common.{◌≡◌, ◌++◌, take}
-use Rattle.hir_types.specs.Terms.{auto_parts}
-use Rattle.hir_types.specs.Outlines.{part_terms}
+use Rattle.hir_types.specs.Own.{auto_parts, part_terms}
 use Rattle.hir_types.proofs.outline.push_autos.Given as goal
 
 abbrev pub invariant-loop-auto_trait : goal.invariant-loop-auto_trait

@@ -1,7 +1,6 @@
 use Rattle.std.proofs.Common.{◌≡◌, ◌++◌, take}
 use Rattle.std.specs.List.{flat_map}
-use Rattle.hir_types.specs.Terms.{bound_parts}
-use Rattle.hir_types.specs.Outlines.{part_terms}
+use Rattle.hir_types.specs.Own.{bound_parts, part_terms}
 use Rattle.hir_types.proofs.outline.push_bounds.Given as goal
 
 abbrev pub invariant-loop-bound : goal.invariant-loop-bound

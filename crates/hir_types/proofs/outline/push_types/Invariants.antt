@@ -1,6 +1,5 @@
 use Rattle.std.proofs.Common.{◌≡◌, ◌++◌, take}
-use Rattle.hir_types.specs.TermLaws.{parts_of_types}
-use Rattle.hir_types.specs.Outlines.{part_terms}
+use Rattle.hir_types.specs.Own.{parts_of_types, part_terms}
 use Rattle.hir_types.proofs.outline.push_types.Given as goal
 
 abbrev pub invariant-loop-ty : goal.invariant-loop-ty

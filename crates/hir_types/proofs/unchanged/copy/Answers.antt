@@ -1,5 +1,5 @@
 use Rattle.std.proofs.Common.{◌≡◌, IfOk, subst}
-use Rattle.hir_types.specs.Replacements.{folded_itself}
+use Rattle.hir_types.specs.Own.{folded_itself}
 use Rattle.hir_types.proofs.unchanged.copy.Goals as goal
 
 pub returns : goal.returns

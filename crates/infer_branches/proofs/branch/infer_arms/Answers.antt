@@ -1,6 +1,6 @@
 use Rattle.std.proofs.Common.{arith}
 use Rattle.std.proofs.lemmas.List.{get_or_default}
-use Rattle.infer_coerce.proofs.Later.{later}
+use Rattle.infer_branches.proofs.Words.{later}
 use Rattle.infer_branches.proofs.ArmWalk.{begins_arms, comes_to_guard, past_guard, comes_to_arm, goes_past_arm, ends_arms}
 use Rattle.infer_branches.proofs.PatternWalk.{arm_at}
 use Rattle.infer_branches.proofs.branch.infer_arms.Goals as goal

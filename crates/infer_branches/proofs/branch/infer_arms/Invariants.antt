@@ -1,4 +1,4 @@
-use Rattle.infer_ctx.specs.Context.{given_of, schedule_of, expected_type}
+use Rattle.infer_branches.specs.Words.{given_of, schedule_of, expected_type}
 use Rattle.infer_branches.proofs.ArmWalk.{ArmWalk}
 use Rattle.infer_branches.proofs.branch.infer_arms.Given as goal
 

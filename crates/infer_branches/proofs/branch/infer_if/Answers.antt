@@ -1,6 +1,5 @@
 use Rattle.std.proofs.Common.{arith}
-use Rattle.infer_ctx.proofs.FineTypes.{fine_expectation_grown}
-use Rattle.infer_coerce.proofs.Later.{later}
+use Rattle.infer_branches.proofs.Words.{fine_expectation_grown, later}
 use Rattle.infer_branches.proofs.BranchWalk.{comes_to_condition, past_condition, comes_to_branch, past_branch, comes_to_else, ends_if}
 use Rattle.infer_branches.proofs.InAlternatives.{wanted_less}
 use Rattle.infer_branches.proofs.branch.infer_if.Goals as goal

@@ -1,9 +1,7 @@
 use Rattle.std.proofs.Common.{sym, subst, Some}
 use Rattle.std.proofs.lemmas.List.{get_or_default}
-use Rattle.hir_raw.specs.declared.raw.RawArm.{RawArm}
-use Rattle.infer_ctx.specs.Context.{given_of, schedule_of}
-use Rattle.infer_coerce.proofs.Later.{later}
-use Rattle.infer_pat.specs.Patterns.{BeforePat, PatDone}
+use Rattle.infer_branches.specs.Words.{RawArm, given_of, schedule_of, BeforePat, PatDone}
+use Rattle.infer_branches.proofs.Words.{later}
 use Rattle.infer_branches.proofs.PatternWalk.{arm_at, comes_to_scrutinee, begins_patterns, comes_to_pattern, goes_past_pattern, comes_to_arms, ends_match}
 use Rattle.infer_branches.proofs.InAlternatives.{arms_wanted}
 use Rattle.infer_branches.proofs.branch.infer_match.Goals as goal

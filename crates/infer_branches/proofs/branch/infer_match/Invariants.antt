@@ -1,4 +1,4 @@
-use Rattle.infer_ctx.specs.Context.{given_of, schedule_of}
+use Rattle.infer_branches.specs.Words.{given_of, schedule_of}
 use Rattle.infer_branches.proofs.PatternWalk.{PatternWalk}
 use Rattle.infer_branches.proofs.branch.infer_match.Given as goal
 

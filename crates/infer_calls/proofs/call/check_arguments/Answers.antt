@@ -2,7 +2,7 @@ use Rattle.std.proofs.Common.{arith, ◌<◌, ◌≡◌, refl, Some, slice_get, 
 use Rattle.std.proofs.lemmas.Option.{slice_get_read}
 use Rattle.std.proofs.lemmas.List.{get_or_default}
 use Rattle.infer_calls.proofs.Args.{begins_args, args_on, comes_to_arg, goes_past_arg, ends_args}
-use Rattle.infer_coerce.proofs.Later.{later}
+use Rattle.infer_calls.proofs.Words.{later}
 use Rattle.infer_calls.proofs.call.check_arguments.Goals as goal
 
 pub loop-i-init : goal.loop-i-init

@@ -1,7 +1,6 @@
 use Rattle.std.proofs.Common.{◌∙◌, sym, subst, Some, None}
-use Rattle.infer_ctx.specs.Context.{given_of, schedule_of}
-use Rattle.infer_ctx.specs.Callables.{IsSigIfItem}
-use Rattle.infer_calls.specs.Calls.{BeforeInputs}
+use Rattle.infer_calls.specs.Words.{given_of, schedule_of, IsSigIfItem}
+use Rattle.infer_calls.specs.Own.{BeforeInputs}
 use Rattle.infer_calls.proofs.CallWalk.{comes_to_args, own_sig, output_fine, takes_inputs, ends_call}
 use Rattle.infer_calls.proofs.Callees.{items_callable, known_fine, callee_known}
 use Rattle.infer_calls.proofs.Uncallable.{comes_to_uncallable}

@@ -1,6 +1,5 @@
 use Rattle.std.proofs.Common.{subst}
-use Rattle.infer_ctx.specs.Context.{given_of, schedule_of}
-use Rattle.infer_obligations.specs.Reading.{SelectsAndReads}
+use Rattle.infer_calls.specs.Words.{given_of, schedule_of, SelectsAndReads}
 use Rattle.infer_calls.proofs.CallWalk.{args_then}
 use Rattle.infer_calls.proofs.call.check_call_arguments.Goals as goal
 

@@ -1,4 +1,4 @@
-use Rattle.infer_ctx.specs.Context.{given_of, schedule_of}
+use Rattle.infer_calls.specs.Words.{given_of, schedule_of}
 use Rattle.infer_calls.proofs.CallWalk.{answered_since, inputs_bound, inputs_fine}
 use Rattle.infer_calls.proofs.call.check_each_argument.Goals as goal
 

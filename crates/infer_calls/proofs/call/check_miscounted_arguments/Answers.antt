@@ -1,8 +1,8 @@
 use Rattle.std.proofs.Common.{arith, ◌≡◌, ap, sym, subst}
-use Rattle.infer_ctx.specs.Context.{given_of, schedule_of}
-use Rattle.infer_calls.specs.Calls.{BeforeLoose, LooseDone}
+use Rattle.infer_calls.specs.Words.{given_of, schedule_of}
+use Rattle.infer_calls.specs.Own.{BeforeLoose, LooseDone}
 use Rattle.infer_calls.proofs.CallWalk.{comes_to_others, ends_others}
-use Rattle.infer_coerce.proofs.Later.{later}
+use Rattle.infer_calls.proofs.Words.{later}
 use Rattle.infer_calls.proofs.call.check_miscounted_arguments.Goals as goal
 
 pub infer_arguments-requires-clause-infers : goal.infer_arguments-requires-clause-infers

@@ -1,12 +1,9 @@
 use Rattle.std.proofs.Common.{◌≡◌, ◌∙◌, arith, refl, sym, subst, Some, slice_get}
 use Rattle.std.proofs.lemmas.Option.{slice_get_read, slice_get_within}
-use Rattle.hir_types.specs.declared.ty.Ty.{Ty}
+use Rattle.infer_calls.specs.Words.{Ty, given_of, OnlyBinds, SameOrDiffer}
 use Rattle.std.proofs.lemmas.List.{get_or_default}
-use Rattle.infer_ctx.specs.Context.{given_of}
-use Rattle.infer_ctx.specs.Steps.{OnlyBinds}
 use Rattle.infer_calls.proofs.Loose.{begins_loose, comes_to_loose, goes_past_loose, still_fine, ends_loose}
-use Rattle.infer_coerce.specs.MadeEqual.{SameOrDiffer}
-use Rattle.infer_coerce.proofs.Unified.{binds_nothing}
+use Rattle.infer_calls.proofs.Words.{binds_nothing}
 use Rattle.infer_calls.proofs.call.infer_arguments.Goals.{then-i-inputs+in_ok-unify_with, else-i-inputs}
 use Rattle.infer_calls.proofs.call.infer_arguments.Goals as goal
 

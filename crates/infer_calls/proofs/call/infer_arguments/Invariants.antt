@@ -1,4 +1,4 @@
-use Rattle.infer_ctx.specs.Context.{given_of, schedule_of}
+use Rattle.infer_calls.specs.Words.{given_of, schedule_of}
 use Rattle.infer_calls.proofs.Loose.{AtLoose}
 use Rattle.infer_calls.proofs.call.infer_arguments.Given as goal
 

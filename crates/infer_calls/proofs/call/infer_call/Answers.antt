@@ -1,8 +1,6 @@
 use Rattle.std.proofs.lemmas.Result.{IfOk-weaker}
-use Rattle.infer_ctx.proofs.Expected.{kind_for_any, within_for_any}
-use Rattle.infer_ctx.proofs.FineTypes.{fine_expectation_grown}
+use Rattle.infer_calls.proofs.Words.{kind_for_any, within_for_any, fine_expectation_grown, later}
 use Rattle.infer_calls.proofs.CallWalk.{comes_to_callee, call_then}
-use Rattle.infer_coerce.proofs.Later.{later}
 use Rattle.infer_calls.proofs.call.infer_call.Goals as goal
 
 pub infer_callee-requires-clause-before : goal.infer_callee-requires-clause-before

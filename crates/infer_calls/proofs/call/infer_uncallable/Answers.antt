@@ -1,12 +1,10 @@
 use Rattle.std.proofs.Common.{arith, ◌≡◌, ◌∙◌, ap, sym, subst, None, []}
 use Rattle.hir_types.specs.declared.ids.ExprOrPatId.TheVariants as node
 use Rattle.hir_types.specs.declared.ty.Ty.TheVariants as ty
-use Rattle.infer_table.specs.Table.{hole_count}
-use Rattle.infer_ctx.specs.Context.{given_of, schedule_of, with_seen, with_table}
-use Rattle.infer_ctx.specs.Steps.{KindDone}
-use Rattle.infer_calls.specs.Calls.{BeforeLoose, LooseDone}
+use Rattle.infer_calls.specs.Words.{hole_count, given_of, schedule_of, with_seen, with_table, KindDone}
+use Rattle.infer_calls.specs.Own.{BeforeLoose, LooseDone}
 use Rattle.infer_calls.proofs.Uncallable.{seen_entry, comes_to_seen, ends_uncallable}
-use Rattle.infer_coerce.proofs.Later.{later}
+use Rattle.infer_calls.proofs.Words.{later}
 use Rattle.infer_calls.proofs.call.infer_uncallable.Goals as goal
 
 pub infer_uncallable_arguments-requires-clause-infers : goal.infer_uncallable_arguments-requires-clause-infers

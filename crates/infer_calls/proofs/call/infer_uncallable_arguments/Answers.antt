@@ -1,4 +1,4 @@
-use Rattle.infer_ctx.specs.Context.{given_of, schedule_of}
+use Rattle.infer_calls.specs.Words.{given_of, schedule_of}
 use Rattle.infer_calls.proofs.CallWalk.{loose_then}
 use Rattle.infer_calls.proofs.call.infer_uncallable_arguments.Goals as goal
 

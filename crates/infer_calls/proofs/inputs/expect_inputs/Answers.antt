@@ -1,8 +1,7 @@
 use Rattle.std.proofs.Common.{subst}
-use Rattle.infer_ctx.specs.Context.{expected_type, given_of}
-use Rattle.infer_coerce.specs.MadeEqual.{UnifiesAll}
-use Rattle.infer_coerce.proofs.Settled.{still}
-use Rattle.infer_calls.specs.Inputs.{FindsInputs}
+use Rattle.infer_calls.specs.Words.{expected_type, given_of, UnifiesAll}
+use Rattle.infer_calls.proofs.Words.{still}
+use Rattle.infer_calls.specs.Own.{FindsInputs}
 use Rattle.infer_calls.proofs.ExpectedInputs.{expected_met, wanted_fine}
 use Rattle.infer_calls.proofs.inputs.expect_inputs.Goals as goal
 

@@ -1,13 +1,9 @@
 use Rattle.std.specs.Option.{option_copied}
 use Rattle.std.specs.Prelude.{IfOk}
 use Rattle.std.proofs.Common.{rules, ◌≡◌, ◌∙◌, sym, ap, subst, Some, Ok, Err, List, map}
-use Rattle.infer_ctx.specs.Context.{expected_type, given_of}
+use Rattle.infer_calls.specs.Words.{expected_type, given_of, replaced, Ty, NoUnifier, IsResolvedOr}
 use Rattle.std.specs.declared.alloc.AllocError.{AllocError}
-use Rattle.hir_types.specs.Subst.{replaced}
-use Rattle.hir_types.specs.declared.ty.Ty.{Ty}
-use Rattle.infer_table.specs.declared.unify.NoUnifier.{NoUnifier}
-use Rattle.infer_table.specs.Undo.{IsResolvedOr}
-use Rattle.infer_calls.specs.Inputs.{IsTried}
+use Rattle.infer_calls.specs.Own.{IsTried}
 use Rattle.infer_calls.proofs.ExpectedInputs.{found_tried}
 use Rattle.infer_calls.proofs.inputs.expected_inputs_for_output.Goals as goal
 

@@ -1,9 +1,7 @@
 use Rattle.std.proofs.Common.{subst, sym, ◌≡◌, ◌++◌, ◌∷◌, [], Ok}
 use Rattle.hir_types.specs.declared.ids.ExprOrPatId.TheVariants as node
-use Rattle.infer_table.specs.Waiting.{waiting}
-use Rattle.infer_ctx.specs.declared.context.InferenceContext.{InferenceContext}
-use Rattle.infer_ctx.specs.Context.{given_of}
-use Rattle.infer_coerce.specs.Coercions.{IsCoercion}
+use Rattle.infer_coerce.specs.Words.{waiting, InferenceContext, given_of}
+use Rattle.infer_coerce.specs.Own.{IsCoercion}
 use Rattle.infer_coerce.proofs.Unified.{waits_coercion}
 use Rattle.infer_coerce.proofs.coercion.coerce.Goals as goal
 

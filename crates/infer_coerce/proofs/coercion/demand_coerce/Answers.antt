@@ -1,6 +1,6 @@
 use Rattle.std.proofs.Common.{subst}
-use Rattle.infer_ctx.specs.Context.{given_of}
-use Rattle.infer_coerce.specs.Coercions.{IsCoercion}
+use Rattle.infer_coerce.specs.Words.{given_of}
+use Rattle.infer_coerce.specs.Own.{IsCoercion}
 use Rattle.infer_coerce.proofs.Unified.{refused_coerced}
 use Rattle.infer_coerce.proofs.coercion.demand_coerce.Goals as goal
 

@@ -1,6 +1,6 @@
 use Rattle.std.proofs.Common.{subst}
-use Rattle.infer_ctx.specs.Context.{given_of}
-use Rattle.infer_coerce.specs.MadeEqual.{IsUnifiedIf}
+use Rattle.infer_coerce.specs.Words.{given_of}
+use Rattle.infer_coerce.specs.Own.{IsUnifiedIf}
 use Rattle.infer_coerce.proofs.Unified.{unified_later}
 use Rattle.infer_coerce.proofs.unification.unify.Goals as goal
 

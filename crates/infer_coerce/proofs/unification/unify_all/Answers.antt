@@ -1,6 +1,6 @@
 use Rattle.std.proofs.Common.{arith, ◌≡◌, ◌<◌, refl, Some, slice_get, length}
 use Rattle.std.proofs.lemmas.Option.{slice_get_read}
-use Rattle.infer_ctx.specs.Context.{given_of}
+use Rattle.infer_coerce.specs.Words.{given_of}
 use Rattle.infer_coerce.proofs.Settled.{begins_unify, ends_unify, goes_past_unify, still_fine}
 use Rattle.infer_coerce.proofs.unification.unify_all.Goals as goal
 

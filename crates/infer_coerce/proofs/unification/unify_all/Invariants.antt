@@ -1,4 +1,4 @@
-use Rattle.infer_ctx.specs.Context.{given_of}
+use Rattle.infer_coerce.specs.Words.{given_of}
 use Rattle.infer_coerce.proofs.Settled.{AtUnify}
 use Rattle.infer_coerce.proofs.unification.unify_all.Given as goal
 

@@ -1,6 +1,5 @@
 use Rattle.std.proofs.Common.{subst}
-use Rattle.infer_table.specs.Table.{AreUnifiedIf}
-use Rattle.infer_ctx.specs.Context.{given_of}
+use Rattle.infer_coerce.specs.Words.{AreUnifiedIf, given_of}
 use Rattle.infer_coerce.proofs.Unified.{unified, refused}
 use Rattle.infer_coerce.proofs.unification.unify_alone.Goals as goal
 

@@ -1,6 +1,6 @@
 use Rattle.std.proofs.Common.{refl, arith}
 use Rattle.std.proofs.lemmas.Option.{slice_get_read, slice_get_within}
-use Rattle.infer_ctx.specs.Context.{given_of}
+use Rattle.infer_coerce.specs.Words.{given_of}
 use Rattle.infer_coerce.proofs.Unified.{one_more, pair_still_fine}
 use Rattle.infer_coerce.proofs.unification.unify_each.Goals as goal
 

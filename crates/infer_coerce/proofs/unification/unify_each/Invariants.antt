@@ -1,4 +1,4 @@
-use Rattle.infer_ctx.specs.Context.{given_of}
+use Rattle.infer_coerce.specs.Words.{given_of}
 use Rattle.infer_coerce.proofs.Unified.{EachSoFar}
 use Rattle.infer_coerce.proofs.unification.unify_each.Given as goal
 

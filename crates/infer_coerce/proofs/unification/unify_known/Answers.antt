@@ -1,6 +1,6 @@
 use Rattle.std.proofs.Common.{arith, subst}
-use Rattle.infer_ctx.specs.Context.{given_of}
-use Rattle.infer_coerce.specs.MadeEqual.{UnifiesNext}
+use Rattle.infer_coerce.specs.Words.{given_of}
+use Rattle.infer_coerce.specs.Own.{UnifiesNext}
 use Rattle.infer_coerce.proofs.KnownPairs.{begins_known, ends_known, goes_past_known, no_known}
 use Rattle.infer_coerce.proofs.unification.unify_known.Goals as goal
 

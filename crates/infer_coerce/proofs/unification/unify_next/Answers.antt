@@ -1,6 +1,5 @@
 use Rattle.std.proofs.Common.{subst, sym}
-use Rattle.infer_table.specs.Table.{TakesKnown}
-use Rattle.infer_ctx.specs.Context.{given_of}
+use Rattle.infer_coerce.specs.Words.{TakesKnown, given_of}
 use Rattle.infer_coerce.proofs.Unified.{first_unified, none_taken}
 use Rattle.infer_coerce.proofs.unification.unify_next.Goals as goal
 

@@ -1,6 +1,5 @@
 use Rattle.std.proofs.Common.{sym, subst, ◌∙◌}
-use Rattle.infer_ctx.specs.Context.{given_of, scope_in}
-use Rattle.infer_ctx.specs.Fine.{AreFinePairs}
+use Rattle.infer_coerce.specs.Words.{given_of, scope_in, AreFinePairs}
 use Rattle.infer_coerce.proofs.Unified.{all_decided}
 use Rattle.infer_coerce.proofs.unification.unify_unknown.Goals as goal
 

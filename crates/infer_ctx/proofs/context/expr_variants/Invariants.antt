@@ -1,5 +1,5 @@
 use Rattle.std.proofs.Common.{◌≡◌, map, take}
-use Rattle.infer_ctx.specs.Found.{expr_variant}
+use Rattle.infer_ctx.specs.Own.{expr_variant}
 use Rattle.infer_ctx.proofs.context.expr_variants.Given as goal
 
 abbrev pub invariant-loop-expr : goal.invariant-loop-expr

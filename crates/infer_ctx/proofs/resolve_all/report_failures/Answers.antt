@@ -1,7 +1,7 @@
 use Rattle.std.proofs.Common.{◌∙◌, ap, refl, sym, take}
 use Rattle.std.proofs.lemmas.Option.{slice_get_read}
-use Rattle.infer_table.specs.Completion.{completion}
-use Rattle.infer_ctx.specs.Said.{said, said_of}
+use Rattle.infer_ctx.specs.Words.{completion}
+use Rattle.infer_ctx.specs.Own.{said, said_of}
 use Rattle.infer_ctx.proofs.Lists.{take_next}
 use Rattle.infer_ctx.proofs.Said.{said-push}
 use Rattle.infer_ctx.proofs.resolve_all.report_failures.Goals as goal

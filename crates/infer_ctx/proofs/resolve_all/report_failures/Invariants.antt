@@ -1,6 +1,6 @@
 use Rattle.std.proofs.Common.{◌≡◌, take}
-use Rattle.infer_table.specs.Completion.{completion}
-use Rattle.infer_ctx.specs.Said.{said}
+use Rattle.infer_ctx.specs.Words.{completion}
+use Rattle.infer_ctx.specs.Own.{said}
 use Rattle.infer_ctx.proofs.resolve_all.report_failures.Given as goal
 
 abbrev pub invariant-loop-seen : goal.invariant-loop-seen

@@ -1,8 +1,8 @@
 use Rattle.std.proofs.Common.{◌∙◌, ap, refl}
 use Rattle.std.proofs.lemmas.List.{take_all}
 use Rattle.std.proofs.lemmas.Option.{slice_get_read}
-use Rattle.infer_table.specs.Completion.{completion}
-use Rattle.infer_ctx.specs.Closings.{asked_or_noted, closed_mismatches, entry_of}
+use Rattle.infer_ctx.specs.Words.{completion}
+use Rattle.infer_ctx.specs.Own.{asked_or_noted, closed_mismatches, entry_of}
 use Rattle.infer_ctx.proofs.UnderClosings.{closed_next, length-closed_mismatches}
 use Rattle.infer_ctx.proofs.resolve_all.resolve_expr_mismatches.Goals as goal
 

@@ -1,7 +1,7 @@
 use Rattle.std.specs.Prelude.{option_map}
 use Rattle.std.proofs.Common.{◌≡◌, map, take}
-use Rattle.infer_table.specs.Completion.{completion}
-use Rattle.infer_ctx.specs.Closings.{closed_mismatch}
+use Rattle.infer_ctx.specs.Words.{completion}
+use Rattle.infer_ctx.specs.Own.{closed_mismatch}
 use Rattle.infer_ctx.proofs.resolve_all.resolve_mismatches.Given as goal
 
 abbrev pub invariant-loop-mismatch : goal.invariant-loop-mismatch

@@ -1,7 +1,6 @@
 use Rattle.std.specs.Prelude.{option_map}
 use Rattle.std.proofs.Common.{◌≡◌, map, take}
-use Rattle.hir_types.specs.Subst.{folded}
-use Rattle.infer_table.specs.Completion.{completion}
+use Rattle.infer_ctx.specs.Words.{folded, completion}
 use Rattle.infer_ctx.proofs.resolve_all.resolve_tys.Given as goal
 
 abbrev pub invariant-loop-ty : goal.invariant-loop-ty

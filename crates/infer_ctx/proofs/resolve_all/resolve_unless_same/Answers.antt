@@ -1,7 +1,6 @@
 use Rattle.std.proofs.Common.{◌∙◌, Some, sym}
 use Rattle.std.proofs.lemmas.Result.{IfOk-weaker}
-use Rattle.infer_table.specs.Completion.{completion}
-use Rattle.infer_result.specs.Table.{mismatch}
+use Rattle.infer_ctx.specs.Words.{completion, mismatch}
 use Rattle.infer_ctx.proofs.UnderClosings.{asked_alike, asked_unlike}
 use Rattle.infer_ctx.proofs.resolve_all.resolve_unless_same.Goals as goal
 

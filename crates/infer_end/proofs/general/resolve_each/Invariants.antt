@@ -1,6 +1,6 @@
 use Rattle.std.specs.Prelude.{option_map}
 use Rattle.std.proofs.Common.{◌≡◌, Some, map, take}
-use Rattle.infer_table.specs.Table.{resolved_type}
+use Rattle.infer_end.specs.Words.{resolved_type}
 use Rattle.infer_end.proofs.general.resolve_each.Given as goal
 
 abbrev pub invariant-loop-ty : goal.invariant-loop-ty

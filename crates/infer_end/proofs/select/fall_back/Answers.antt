@@ -1,4 +1,4 @@
-use Rattle.infer_ctx.specs.Context.{given_of}
+use Rattle.infer_end.specs.Words.{given_of}
 use Rattle.infer_end.proofs.Settling.{falls_back}
 use Rattle.infer_end.proofs.select.fall_back.Goals as goal
 

@@ -1,4 +1,4 @@
-use Rattle.infer_ctx.specs.Context.{given_of}
+use Rattle.infer_end.specs.Words.{given_of}
 use Rattle.infer_end.proofs.SelectedBody.{selected_done, is_selection}
 use Rattle.infer_end.proofs.select.select.Goals as goal
 

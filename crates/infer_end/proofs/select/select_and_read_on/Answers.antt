@@ -1,6 +1,5 @@
 use Rattle.std.proofs.Common.{sym, ap, ◌∙◌}
-use Rattle.hir_raw.specs.declared.raw.RawFacts.{RawFacts}
-use Rattle.infer_ctx.specs.Context.{given_of}
+use Rattle.infer_end.specs.Words.{RawFacts, given_of}
 use Rattle.infer_end.proofs.Settling.{begins_rounds, once_more, bound_none, often_enough}
 use Rattle.infer_end.proofs.select.select_and_read_on.Goals as goal
 

@@ -1,4 +1,4 @@
-use Rattle.infer_ctx.specs.Context.{given_of}
+use Rattle.infer_end.specs.Words.{given_of}
 use Rattle.infer_end.proofs.Settling.{Rounds}
 use Rattle.infer_end.proofs.select.select_and_read_on.Given as goal
 

@@ -1,4 +1,4 @@
-use Rattle.infer_ctx.specs.Context.{given_of}
+use Rattle.infer_end.specs.Words.{given_of}
 use Rattle.infer_end.proofs.Settling.{selects_then_reads}
 use Rattle.infer_end.proofs.select.select_then_read.Goals as goal
 

@@ -1,6 +1,5 @@
 use Rattle.std.proofs.Common.{◌∙◌, ap}
-use Rattle.infer_ctx.specs.Context.{given_of}
-use Rattle.goal_facts.specs.Goals.{ItemSources}
+use Rattle.infer_end.specs.Words.{given_of, ItemSources}
 use Rattle.infer_end.proofs.Settling.{binds_done, settling, settles_body, settles_only}
 use Rattle.infer_end.proofs.select.settle.Goals as goal
 

@@ -1,5 +1,5 @@
 use Rattle.std.proofs.Common.{sym, ◌∙◌}
-use Rattle.infer_ctx.specs.Context.{given_of}
+use Rattle.infer_end.specs.Words.{given_of}
 use Rattle.infer_end.proofs.Settling.{settles_nothing, settles_last}
 use Rattle.infer_end.proofs.select.settle_where_possible.Goals as goal
 

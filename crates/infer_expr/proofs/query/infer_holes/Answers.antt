@@ -1,7 +1,7 @@
 use Rattle.std.proofs.Common.{◌≡◌, ◌∙◌, ap, sym, subst}
 use Rattle.hir_raw.specs.declared.raw.RawBody.{RawBody}
 use Rattle.hir_facts.proofs.InRange.{body_in_range}
-use Rattle.infer_goals.specs.Below.{ItemSources}
+use Rattle.infer_goals.specs.Words.{ItemSources}
 use Rattle.infer_goals.specs.declared.table.GoalTable.{GoalTable}
 use Rattle.infer_table.specs.Table.{new_state}
 use Rattle.infer_result.specs.OwnTypes.{AreOwnTypes, AreLetTypes}

@@ -1,6 +1,5 @@
 use Rattle.std.proofs.Common.{ap, ◌∙◌}
-use Rattle.goal_search.specs.Sources.{asked_of}
-use Rattle.goal_facts.specs.Goals.{asked_goal}
+use Rattle.infer_goals.specs.Words.{asked_of, asked_goal}
 use Rattle.infer_goals.proofs.Sleeping.{asleep_one}
 use Rattle.infer_goals.proofs.obligations.sleep_one.Goals as goal
 

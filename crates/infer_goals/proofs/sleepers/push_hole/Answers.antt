@@ -1,5 +1,5 @@
 use Rattle.std.proofs.Common.{List, ℕ, sym, subst}
-use Rattle.infer_goals.specs.Sleepers.{IsAmong, IsListed}
+use Rattle.infer_goals.specs.Own.{IsAmong, IsListed}
 use Rattle.infer_goals.proofs.Waking.{listed_now, listed_still}
 use Rattle.infer_goals.proofs.sleepers.push_hole.Goals as goal
 

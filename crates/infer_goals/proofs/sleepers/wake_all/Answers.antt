@@ -1,7 +1,7 @@
 use Rattle.std.proofs.Common.{◌≡◌, ◌+◌, ◌≤◌, Some, length, get_or, arith}
 use Rattle.std.specs.Prelude.{slice_get}
 use Rattle.std.proofs.lemmas.Option.{slice_get-get_or}
-use Rattle.infer_goals.specs.Sleepers.{IsAmong}
+use Rattle.infer_goals.specs.Own.{IsAmong}
 use Rattle.infer_goals.proofs.Waking.{IsAmongFirst, first_none, first_next, first_all, woken_none, woken_then, woken_for}
 use Rattle.infer_goals.proofs.sleepers.wake_all.Goals as goal
 

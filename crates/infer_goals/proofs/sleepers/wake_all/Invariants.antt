@@ -1,4 +1,4 @@
-use Rattle.infer_goals.specs.Sleepers.{AreWoken}
+use Rattle.infer_goals.specs.Own.{AreWoken}
 use Rattle.infer_goals.proofs.Waking.{IsAmongFirst}
 use Rattle.infer_goals.proofs.sleepers.wake_all.Given as goal
 

@@ -1,6 +1,6 @@
 use Rattle.std.proofs.Common.{◌≡◌, ◌∙◌, false, List, Bool, get_or, slice_set, sym, ap, subst}
 use Rattle.std.proofs.lemmas.List.{get_or_read}
-use Rattle.infer_goals.specs.Sleepers.{Sleeps, AreWoken}
+use Rattle.infer_goals.specs.Own.{Sleeps, AreWoken}
 use Rattle.infer_goals.proofs.Waking.{woken_one}
 use Rattle.infer_goals.proofs.sleepers.wake_one.Goals as goal
 

@@ -1,9 +1,7 @@
 use Rattle.std.proofs.Common.{subst, sym}
-use Rattle.hir_types.specs.Terms.{Term}
-use Rattle.goal_search.specs.Sources.{system}
-use Rattle.goal_terms.proofs.Owned.{pair_of}
-use Rattle.goal_terms.specs.Terms.{term_of}
-use Rattle.infer_needs.specs.Left.{Lists, NoneStands}
+use Rattle.infer_needs.specs.Words.{Term, system, term_of}
+use Rattle.infer_needs.proofs.Words.{pair_of}
+use Rattle.infer_needs.specs.Own.{Lists, NoneStands}
 use Rattle.infer_needs.proofs.Leaving.{lists_pair}
 use Rattle.infer_needs.proofs.left.+look_at.Goals as goal
 

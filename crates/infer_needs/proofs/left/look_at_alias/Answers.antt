@@ -1,23 +1,9 @@
 use Rattle.std.proofs.Common.{◌≡◌, ◌∙◌, ℕ, Option, sym, ap, subst, true, true≢false, List, map}
 use Rattle.std.proofs.lemmas.Result.{on_ok_weaker}
 use Rattle.hir_types.specs.declared.goal.Goal.TheVariants as the_goal
-use Rattle.hir_types.specs.declared.ty.GenericArg.{GenericArg}
-use Rattle.hir_types.specs.declared.ty.Ty.{Ty}
+use Rattle.infer_needs.specs.Words.{GenericArg, Ty, chain, term, arg_term, RawFacts, IsLawful, answers, IsRead, staying, system, term_of, asked_goal, IsTypeRead, IsProvedIf, AddsOneRoot, IsWritten, HoldsUnknown, StaysOrIsListed}
 use Rattle.hir_types.specs.declared.ty.Ty.TheVariants as ty
-use Rattle.hir_types.specs.Terms.{chain, term, arg_term}
-use Rattle.hir_raw.specs.declared.raw.RawFacts.{RawFacts}
-use Rattle.hir_facts.specs.Lawful.{IsLawful}
-use Rattle.goal_answers.specs.Answers.{answers}
-use Rattle.goal_answers.specs.Reading.{IsRead, staying}
-use Rattle.goal_search.specs.Sources.{system}
-use Rattle.goal_terms.specs.Terms.{term_of}
-use Rattle.goal_facts.specs.Goals.{asked_goal}
-use Rattle.goal_facts.specs.Reading.{IsTypeRead}
-use Rattle.goal_prove.specs.Entries.{IsProvedIf, AddsOneRoot}
-use Rattle.goal_prove.specs.Written.{IsWritten}
-use Rattle.infer_result.specs.Needs.{HoldsUnknown}
-use Rattle.infer_result.specs.Projections.{StaysOrIsListed}
-use Rattle.infer_needs.specs.Left.{Lists}
+use Rattle.infer_needs.specs.Own.{Lists}
 use Rattle.infer_needs.proofs.FitParts.{entry_reads}
 use Rattle.infer_needs.proofs.Leaving.{lists_nothing, reads_staying, reads_unknown, found_settles, lists_reading, proof_here}
 use Rattle.infer_needs.proofs.ReadsYes.{reads_yes, reads_written}

@@ -1,8 +1,8 @@
 use Rattle.std.proofs.Common.{◌∙◌, ap}
 use Rattle.std.specs.Prelude.{Some}
 use Rattle.std.proofs.lemmas.Result.{on_ok_weaker}
-use Rattle.goal_search.specs.Sources.{system}
-use Rattle.infer_needs.specs.Left.{StandsInDiagnostic}
+use Rattle.infer_needs.specs.Words.{system}
+use Rattle.infer_needs.specs.Own.{StandsInDiagnostic}
 use Rattle.infer_needs.proofs.Leaving.{lists_each, only_called}
 use Rattle.infer_needs.proofs.left.look_at_diagnostic.Goals as goal
 

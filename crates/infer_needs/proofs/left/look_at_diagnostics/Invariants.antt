@@ -1,5 +1,5 @@
-use Rattle.goal_search.specs.Sources.{system}
-use Rattle.infer_needs.specs.Left.{Lists, StandsInDiagnostic}
+use Rattle.infer_needs.specs.Words.{system}
+use Rattle.infer_needs.specs.Own.{Lists, StandsInDiagnostic}
 use Rattle.infer_needs.proofs.Leaving.{FirstOf}
 use Rattle.infer_needs.proofs.left.look_at_diagnostics.Given as goal
 

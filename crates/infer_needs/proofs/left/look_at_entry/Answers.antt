@@ -1,8 +1,8 @@
 use Rattle.std.proofs.Common.{◌∙◌, sym}
 use Rattle.std.proofs.lemmas.Option.{same_Some}
 use Rattle.std.proofs.lemmas.Result.{on_ok_weaker}
-use Rattle.goal_search.specs.Sources.{system}
-use Rattle.infer_needs.specs.Left.{StandsInType}
+use Rattle.infer_needs.specs.Words.{system}
+use Rattle.infer_needs.specs.Own.{StandsInType}
 use Rattle.infer_needs.proofs.Leaving.{lists_each}
 use Rattle.infer_needs.proofs.left.look_at_entry.Goals as goal
 

@@ -1,7 +1,6 @@
 use Rattle.std.proofs.Common.{◌∙◌, sym}
 use Rattle.std.proofs.lemmas.Result.{on_ok_weaker}
-use Rattle.goal_search.specs.Sources.{system}
-use Rattle.goal_terms.specs.Terms.{term_of}
+use Rattle.infer_needs.specs.Words.{system, term_of}
 use Rattle.infer_needs.proofs.Leaving.{lists_here}
 use Rattle.infer_needs.proofs.left.look_at_head.Goals as goal
 

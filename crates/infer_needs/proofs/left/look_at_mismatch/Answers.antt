@@ -1,6 +1,6 @@
 use Rattle.std.proofs.Common.{inl, inr, refl}
 use Rattle.std.proofs.lemmas.Result.{on_ok_weaker}
-use Rattle.goal_search.specs.Sources.{system}
+use Rattle.infer_needs.specs.Words.{system}
 use Rattle.infer_needs.proofs.Leaving.{lists_mismatch}
 use Rattle.infer_needs.proofs.left.look_at_mismatch.Goals as goal
 

@@ -1,5 +1,5 @@
 use Rattle.std.proofs.lemmas.Result.{on_ok_weaker}
-use Rattle.goal_search.specs.Sources.{system}
+use Rattle.infer_needs.specs.Words.{system}
 use Rattle.infer_needs.proofs.Leaving.{lists_table}
 use Rattle.infer_needs.proofs.left.look_at_table.Goals as goal
 

@@ -1,8 +1,8 @@
 use Rattle.std.proofs.Common.{◌≡◌, refl, arith, length}
 use Rattle.std.specs.Prelude.{Some, slice_get}
 use Rattle.std.proofs.lemmas.Option.{slice_get_read}
-use Rattle.goal_search.specs.Sources.{system}
-use Rattle.infer_needs.specs.Left.{StandsInType}
+use Rattle.infer_needs.specs.Words.{system}
+use Rattle.infer_needs.specs.Own.{StandsInType}
 use Rattle.infer_needs.proofs.Leaving.{first_none, first_next, first_all}
 use Rattle.infer_needs.proofs.left.look_at_types.Goals as goal
 

@@ -1,6 +1,5 @@
 use Rattle.std.proofs.Common.{sym, ap, subst, true≢false}
-use Rattle.goal_facts.specs.Goals.{asked_goal}
-use Rattle.infer_result.specs.Projections.{IsAboutAlias}
+use Rattle.infer_needs.specs.Words.{asked_goal, IsAboutAlias}
 use Rattle.infer_needs.proofs.ReadGoals.{trait_not_about, itself_not_about}
 use Rattle.infer_needs.proofs.note.is_about_alias.Goals as goal
 

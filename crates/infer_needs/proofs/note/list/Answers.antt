@@ -1,8 +1,7 @@
 use Rattle.std.proofs.Common.{inl, inr, refl, sym, subst, ◌∙◌, true≢false}
 use Rattle.std.proofs.lemmas.Result.{on_ok_weaker}
-use Rattle.hir_types.specs.Erasure.{Same}
-use Rattle.hir_types.specs.Faithful.{erased_tells}
-use Rattle.infer_needs.specs.Judged.{clash, IsSaidOnce}
+use Rattle.infer_needs.specs.Words.{Same, erased_tells}
+use Rattle.infer_needs.specs.Own.{clash, IsSaidOnce}
 use Rattle.infer_needs.proofs.note.list.Goals as goal
 
 pub returns-then-branch : goal.returns-then-branch

@@ -1,6 +1,5 @@
 use Rattle.std.proofs.Common.{◌∙◌, [], inl, refl, ap}
-use Rattle.goal_search.specs.Sources.{system}
-use Rattle.goal_facts.specs.Goals.{asked_goal}
+use Rattle.infer_needs.specs.Words.{system, asked_goal}
 use Rattle.infer_needs.proofs.Adding.{adds_none}
 use Rattle.infer_needs.proofs.Rooted.{roots_none}
 use Rattle.infer_needs.proofs.ReadGoals.{trait_not_about}

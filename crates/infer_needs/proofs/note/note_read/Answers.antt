@@ -1,12 +1,8 @@
 use Rattle.std.proofs.Common.{◌≡◌, ◌∙◌, [], inl, inr, refl, sym, ap, subst, true≢false}
 use Rattle.std.proofs.lemmas.Result.{on_ok_weaker}
 use Rattle.hir_types.specs.declared.goal.Goal.TheVariants as the_goal
-use Rattle.goal_search.specs.Sources.{system}
-use Rattle.goal_facts.specs.Goals.{asked_goal}
-use Rattle.goal_prove.specs.Written.{IsWritten}
-use Rattle.infer_result.specs.Projections.{GoalReads, IsAboutAlias}
-use Rattle.infer_needs.specs.Judged.{HasProofOf, SaysAlias}
-use Rattle.infer_needs.specs.Read.{IsGoalRead, IsWrittenIf}
+use Rattle.infer_needs.specs.Words.{system, asked_goal, IsWritten, GoalReads, IsAboutAlias}
+use Rattle.infer_needs.specs.Own.{HasProofOf, SaysAlias, IsGoalRead, IsWrittenIf}
 use Rattle.infer_needs.proofs.Adding.{adds_none}
 use Rattle.infer_needs.proofs.Rooted.{roots_none, roots_other_than}
 use Rattle.infer_needs.proofs.ReadGoals.{reads_same, read_yes, trait_not_about, about_is_other}

@@ -1,9 +1,6 @@
 use Rattle.std.proofs.Common.{◌≡◌, ◌∙◌, [], ◌∷◌, sym, ap, subst}
-use Rattle.hir_raw.specs.declared.raw.RawFacts.{RawFacts}
-use Rattle.goal_answers.specs.Answers.{answers}
-use Rattle.goal_search.specs.Sources.{system}
-use Rattle.goal_facts.specs.Goals.{asked_goal}
-use Rattle.infer_needs.specs.Judged.{HasProofOf}
+use Rattle.infer_needs.specs.Words.{RawFacts, answers, system, asked_goal}
+use Rattle.infer_needs.specs.Own.{HasProofOf}
 use Rattle.infer_needs.proofs.Adding.{adds_none}
 use Rattle.infer_needs.proofs.Rooted.{roots_none, roots_proved}
 use Rattle.infer_needs.proofs.ReadGoals.{proved_yes}

@@ -1,9 +1,6 @@
 use Rattle.std.proofs.Common.{◌≡◌, ◌+◌, suc, sym, ap, ◌∙◌, subst, arith, IfOk}
-use Rattle.goal_terms.specs.Terms.{term_of, HasHeads}
-use Rattle.goal_search.specs.Sources.{kind_of, system}
-use Rattle.goal_facts.specs.Goals.{asked_goal, IsAnswer}
-use Rattle.goal_facts.proofs.Systems.{depth_is_small, answer_is}
-use Rattle.infer_result.specs.CannotHold.{opened_goal}
+use Rattle.infer_needs.specs.Words.{term_of, HasHeads, kind_of, system, asked_goal, IsAnswer, opened_goal}
+use Rattle.infer_needs.proofs.Words.{depth_is_small, answer_is}
 use Rattle.infer_needs.proofs.Opening.{heads_kept}
 use Rattle.infer_needs.proofs.opened.answer_opened.Goals as goal
 

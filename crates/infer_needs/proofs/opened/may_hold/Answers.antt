@@ -1,6 +1,5 @@
 use Rattle.std.proofs.Common.{sym, ◌∙◌, true≢false}
-use Rattle.goal_search.specs.Sources.{system}
-use Rattle.goal_facts.specs.Goals.{asked_goal}
+use Rattle.infer_needs.specs.Words.{system, asked_goal}
 use Rattle.infer_needs.proofs.Opening.{answered_no, not_no}
 use Rattle.infer_needs.proofs.opened.may_hold.Goals as goal
 

@@ -1,8 +1,7 @@
 use Rattle.std.proofs.Common.{inl, inr, refl, subst}
 use Rattle.std.proofs.lemmas.Result.{on_ok_weaker}
-use Rattle.goal_search.specs.Sources.{system}
-use Rattle.goal_facts.specs.Goals.{asked_goal}
-use Rattle.infer_needs.specs.Judged.{MayHoldIf}
+use Rattle.infer_needs.specs.Words.{system, asked_goal}
+use Rattle.infer_needs.specs.Own.{MayHoldIf}
 use Rattle.infer_needs.proofs.prove.complain.Goals as goal
 
 pub returns-then-branch : goal.returns-then-branch

@@ -2,10 +2,8 @@ use Rattle.std.proofs.Common.{◌≡◌, ◌∷◌, [], length, refl, sym, ap, �
 use Rattle.std.specs.Prelude.{map}
 use Rattle.std.proofs.lemmas.List.{nil_from_length}
 use Rattle.std.specs.Vec.Iter.{into_iter_items}
-use Rattle.goal_search.specs.Sources.{system}
-use Rattle.goal_facts.specs.Goals.{asked_goal}
-use Rattle.infer_needs.specs.Judged.{AreJudged}
-use Rattle.infer_needs.specs.Told.{ListsAnswers, AddsRootsOf}
+use Rattle.infer_needs.specs.Words.{system, asked_goal}
+use Rattle.infer_needs.specs.Own.{AreJudged, ListsAnswers, AddsRootsOf}
 use Rattle.infer_needs.proofs.Telling.{tells_none, tells_both}
 use Rattle.infer_needs.proofs.Rooted.{roots_none, roots_both}
 use Rattle.infer_needs.proofs.Judging.{judged_none, judged_more, next_provable, all_asked, asked_more}

@@ -1,9 +1,7 @@
 use Rattle.std.proofs.Common.{◌≡◌, ◌++◌, length, map}
 use Rattle.std.specs.Vec.Iter.{into_iter_items, into_iter_len}
-use Rattle.goal_search.specs.Sources.{system}
-use Rattle.goal_facts.specs.Goals.{asked_goal}
-use Rattle.infer_needs.specs.Judged.{AreJudged}
-use Rattle.infer_needs.specs.Told.{ListsAnswers, AddsRootsOf}
+use Rattle.infer_needs.specs.Words.{system, asked_goal}
+use Rattle.infer_needs.specs.Own.{AreJudged, ListsAnswers, AddsRootsOf}
 use Rattle.infer_needs.proofs.prove.prove_each.Given as goal
 
 abbrev pub invariant-loop-goal : goal.invariant-loop-goal

@@ -1,12 +1,8 @@
 use Rattle.std.proofs.Common.{◌≡◌, ◌+◌, [], length, inl, refl, sym, ap, ◌∙◌, subst, arith}
 use Rattle.std.specs.Prelude.{Some, slice_get}
 use Rattle.std.proofs.lemmas.Option.{slice_get_read}
-use Rattle.goal_search.specs.Sources.{system}
-use Rattle.infer_needs.specs.FitTerms.{EntriesFitIn}
-use Rattle.infer_needs.specs.Judged.{AreAllJudged, FitOrAreSaid}
-use Rattle.infer_result.specs.Needs.{needs_at}
-use Rattle.infer_needs.specs.Left.{WereRead}
-use Rattle.infer_needs.specs.Told.{ListsAnswers, AddsRootsOf, first_needs}
+use Rattle.infer_needs.specs.Words.{system, needs_at}
+use Rattle.infer_needs.specs.Own.{EntriesFitIn, AreAllJudged, FitOrAreSaid, WereRead, ListsAnswers, AddsRootsOf, first_needs}
 use Rattle.infer_needs.proofs.Telling.{tells_none, tells_both, tells_here, first_more}
 use Rattle.infer_needs.proofs.Rooted.{roots_both, roots_here}
 use Rattle.infer_needs.proofs.Coming.{fit_then}

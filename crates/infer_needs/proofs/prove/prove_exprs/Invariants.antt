@@ -1,8 +1,6 @@
 use Rattle.std.proofs.Common.{[]}
-use Rattle.goal_search.specs.Sources.{system}
-use Rattle.infer_needs.specs.Judged.{AreAllJudged, FitOrAreSaid}
-use Rattle.infer_needs.specs.Told.{ListsAnswers, AddsRootsOf, first_needs}
-use Rattle.infer_needs.specs.Written.{AreAllListed}
+use Rattle.infer_needs.specs.Words.{system}
+use Rattle.infer_needs.specs.Own.{AreAllJudged, FitOrAreSaid, ListsAnswers, AddsRootsOf, first_needs, AreAllListed}
 use Rattle.infer_needs.proofs.prove.prove_exprs.Given as goal
 
 abbrev pub invariant-loop-at : goal.invariant-loop-at

@@ -1,8 +1,5 @@
 use Rattle.std.proofs.Common.{◌≡◌, ◌∙◌, [], ◌∷◌, inl, sym, ap, subst}
-use Rattle.hir_raw.specs.declared.raw.RawFacts.{RawFacts}
-use Rattle.goal_answers.specs.Answers.{answers}
-use Rattle.goal_search.specs.Sources.{system}
-use Rattle.goal_facts.specs.Goals.{asked_goal, IsAnswer}
+use Rattle.infer_needs.specs.Words.{RawFacts, answers, system, asked_goal, IsAnswer}
 use Rattle.infer_needs.proofs.Adding.{adds_then, has_later}
 use Rattle.infer_needs.proofs.Telling.{tells_one}
 use Rattle.infer_needs.proofs.Judging.{refused, not_yes}

@@ -1,28 +1,7 @@
 use Rattle.std.proofs.Common.{◌≡◌, ◌++◌, [], List, length, sym, ap, ◌∙◌, subst}
 use Rattle.std.specs.Prelude.{Some}
-use Rattle.hir_types.specs.declared.goal.Goal.{Goal}
-use Rattle.hir_types.specs.declared.ids.DefWithBodyId.{DefWithBodyId}
-use Rattle.hir_types.specs.declared.ty.Ty.{Ty}
-use Rattle.hir_raw.specs.declared.raw.RawBody.{RawBody}
-use Rattle.hir_raw.specs.declared.raw.RawFacts.{RawFacts}
-use Rattle.goal_facts.specs.declared.proof.Proof.{Proof}
-use Rattle.goal_facts.specs.Goals.{ItemSources}
-use Rattle.infer_result.specs.declared.gaps.Gap.{Gap}
-use Rattle.infer_result.specs.declared.result.InferenceResult.{InferenceResult}
-use Rattle.goal_answers.specs.Goals.{System}
-use Rattle.goal_search.specs.declared.answer.Answer.{Answer}
-use Rattle.goal_search.specs.Sources.{system}
-use Rattle.goal_facts.specs.Systems.{IsSystemOf}
-use Rattle.infer_result.specs.Needs.{with_goals, scope_item, GoalsHold, HasNoneLeft, needs_of, pat_needs_at}
-use Rattle.infer_result.specs.Closed.{AllTypes}
-use Rattle.infer_result.specs.Table.{recorded}
-use Rattle.infer_result.specs.Typed.{given}
-use Rattle.infer_result.specs.WrittenAliases.{AllWrittenAreListed}
-use Rattle.infer_needs.specs.Judged.{AreProvable, AreAllJudged, ArePatsJudged, FitOrAreSaid}
-use Rattle.infer_needs.specs.Left.{IsFinalType}
-use Rattle.infer_needs.specs.Fits.{EntriesFit}
-use Rattle.infer_needs.specs.Written.{AreAllListed, AllFitIn}
-use Rattle.infer_needs.specs.Told.{first_needs, first_pat_needs, all_needs, AreAnswered, AddsRootsOf, RootsAreNeeded, RootsAreTold}
+use Rattle.infer_needs.specs.Words.{Goal, DefWithBodyId, Ty, RawBody, RawFacts, Proof, ItemSources, Gap, InferenceResult, System, Answer, system, IsSystemOf, with_goals, scope_item, GoalsHold, HasNoneLeft, needs_of, pat_needs_at, AllTypes, recorded, given, AllWrittenAreListed}
+use Rattle.infer_needs.specs.Own.{AreProvable, AreAllJudged, ArePatsJudged, FitOrAreSaid, IsFinalType, EntriesFit, AreAllListed, AllFitIn, first_needs, first_pat_needs, all_needs, AreAnswered, AddsRootsOf, RootsAreNeeded, RootsAreTold}
 use Rattle.infer_needs.proofs.Telling.{tells_both, needs_stay}
 use Rattle.infer_needs.proofs.Rooted.{roots_both, roots_needed, roots_told}
 use Rattle.infer_needs.proofs.Provable.{needs_provable, node_provable, table_final, pat_needs_provable, as_many_items}

@@ -1,11 +1,7 @@
 use Rattle.std.proofs.Common.{◌≡◌, List, ap, subst, sym, map}
 use Rattle.hir_types.specs.declared.ids.ExprOrPatId.TheVariants as node
-use Rattle.goal_search.specs.Sources.{system}
-use Rattle.goal_answers.specs.Goals.{Asked}
-use Rattle.goal_facts.specs.Goals.{asked_goal}
-use Rattle.infer_result.specs.Needs.{pat_needs_at}
-use Rattle.infer_needs.specs.Judged.{AreProvable}
-use Rattle.infer_needs.specs.Told.{ListsAnswers, AddsRootsOf}
+use Rattle.infer_needs.specs.Words.{system, Asked, asked_goal, pat_needs_at}
+use Rattle.infer_needs.specs.Own.{AreProvable, ListsAnswers, AddsRootsOf}
 use Rattle.infer_needs.proofs.Provable.{pat_needed_here}
 use Rattle.infer_needs.proofs.Judging.{judged_at}
 use Rattle.infer_needs.proofs.Rooted.{roots_none}

@@ -1,8 +1,6 @@
 use Rattle.std.proofs.Common.{◌+◌, [], sym, subst}
-use Rattle.goal_search.specs.Sources.{system}
-use Rattle.infer_result.specs.Needs.{pat_needs_at}
-use Rattle.infer_needs.specs.Judged.{ArePatsJudged}
-use Rattle.infer_needs.specs.Told.{ListsAnswers, AddsRootsOf, first_pat_needs}
+use Rattle.infer_needs.specs.Words.{system, pat_needs_at}
+use Rattle.infer_needs.specs.Own.{ArePatsJudged, ListsAnswers, AddsRootsOf, first_pat_needs}
 use Rattle.infer_needs.proofs.Telling.{tells_none, tells_both, first_pat_more}
 use Rattle.infer_needs.proofs.Rooted.{roots_none, roots_both}
 use Rattle.infer_needs.proofs.Judging.{pats_none, pats_more}

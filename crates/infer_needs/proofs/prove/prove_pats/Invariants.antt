@@ -1,6 +1,5 @@
-use Rattle.goal_search.specs.Sources.{system}
-use Rattle.infer_needs.specs.Judged.{ArePatsJudged}
-use Rattle.infer_needs.specs.Told.{ListsAnswers, AddsRootsOf, first_pat_needs}
+use Rattle.infer_needs.specs.Words.{system}
+use Rattle.infer_needs.specs.Own.{ArePatsJudged, ListsAnswers, AddsRootsOf, first_pat_needs}
 use Rattle.infer_needs.proofs.prove.prove_pats.Given as goal
 
 abbrev pub invariant-loop-at : goal.invariant-loop-at

@@ -1,12 +1,5 @@
 use Rattle.std.proofs.Common.{◌∙◌, ap, subst, option_map}
-use Rattle.hir_types.specs.Terms.{hole}
-use Rattle.hir_facts.specs.Lawful.{IsLawful}
-use Rattle.goal_answers.specs.Answers.{answers}
-use Rattle.goal_answers.specs.Goals.{Asked}
-use Rattle.goal_answers.specs.Steps.{ReadingIs}
-use Rattle.goal_terms.specs.Terms.{term_of}
-use Rattle.goal_search.specs.Sources.{kind_of, system}
-use Rattle.goal_facts.specs.Goals.{asked_goal}
+use Rattle.infer_needs.specs.Words.{hole, IsLawful, answers, Asked, ReadingIs, term_of, kind_of, system, asked_goal}
 use Rattle.infer_needs.proofs.ReadGoals.{read_at, reads_none, made_reads, goal_written}
 use Rattle.infer_needs.proofs.read.read_goal.Goals as goal
 

@@ -1,7 +1,6 @@
 use Rattle.std.proofs.Common.{◌≡◌, true≢false, sym}
-use Rattle.goal_answers.proofs.Upto.{each_all}
-use Rattle.goal_facts.proofs.Systems.{each_get}
-use Rattle.infer_result.specs.Needs.{gap_says}
+use Rattle.infer_needs.proofs.Words.{each_all, each_get}
+use Rattle.infer_needs.specs.Words.{gap_says}
 use Rattle.infer_needs.proofs.say.is_said.Goals as goal
 
 pub returns : goal.returns

@@ -1,6 +1,5 @@
 use Rattle.std.proofs.Common.{◌≡◌, take}
-use Rattle.goal_answers.specs.Goals.{Each}
-use Rattle.infer_result.specs.Needs.{gap_says}
+use Rattle.infer_needs.specs.Words.{Each, gap_says}
 use Rattle.infer_needs.proofs.say.is_said.Given as goal
 
 -- none before says so

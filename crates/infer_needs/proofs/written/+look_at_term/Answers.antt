@@ -1,10 +1,7 @@
 use Rattle.std.proofs.Common.{subst, sym}
-use Rattle.hir_types.specs.Terms.{Term}
-use Rattle.goal_search.specs.Sources.{system}
-use Rattle.goal_terms.proofs.Owned.{pair_of}
-use Rattle.goal_terms.specs.Terms.{term_of}
-use Rattle.infer_result.specs.WrittenAliases.{WrittenAreListed}
-use Rattle.infer_needs.specs.Left.{Lists}
+use Rattle.infer_needs.specs.Words.{Term, system, term_of, WrittenAreListed}
+use Rattle.infer_needs.proofs.Words.{pair_of}
+use Rattle.infer_needs.specs.Own.{Lists}
 use Rattle.infer_needs.proofs.Writing.{lists_two}
 use Rattle.infer_needs.proofs.written.+look_at_term.Goals as goal
 

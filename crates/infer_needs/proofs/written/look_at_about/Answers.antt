@@ -1,14 +1,6 @@
 use Rattle.std.proofs.Common.{◌≡◌, ◌∙◌, ap, subst, sym, true≢false}
-use Rattle.hir_types.specs.Terms.{Term}
-use Rattle.goal_answers.specs.Reading.{alias_at}
-use Rattle.goal_facts.specs.Goals.{asked_goal}
-use Rattle.goal_search.specs.Sources.{system}
-use Rattle.goal_terms.specs.Terms.{term_of}
-use Rattle.infer_result.specs.WrittenAliases.{args_term}
-use Rattle.infer_needs.specs.FitTerms.{FitsIn, GoalFitsIn}
-use Rattle.infer_needs.specs.Left.{Lists}
-use Rattle.infer_needs.specs.Written.{IsAsWritten}
-use Rattle.infer_needs.specs.Judged.{IsProvable}
+use Rattle.infer_needs.specs.Words.{Term, alias_at, asked_goal, system, term_of, args_term}
+use Rattle.infer_needs.specs.Own.{FitsIn, GoalFitsIn, Lists, IsAsWritten, IsProvable}
 use Rattle.infer_needs.proofs.Writing.{About, as_written, lists_about, lists_no_alias}
 use Rattle.infer_needs.proofs.written.look_at_about.Goals as goal
 

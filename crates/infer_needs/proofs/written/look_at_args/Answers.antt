@@ -1,11 +1,5 @@
 use Rattle.std.proofs.Common.{◌∙◌, option_map, sym, subst, true≢false}
-use Rattle.hir_types.specs.Terms.{hole}
-use Rattle.hir_raw.specs.Scope.{alias_params}
-use Rattle.hir_facts.specs.Lawful.{IsLawful}
-use Rattle.goal_answers.specs.Answers.{answers}
-use Rattle.goal_answers.specs.Steps.{ReadingIs}
-use Rattle.goal_search.specs.Sources.{system}
-use Rattle.goal_terms.specs.Terms.{term_of}
+use Rattle.infer_needs.specs.Words.{hole, alias_params, IsLawful, answers, ReadingIs, system, term_of}
 use Rattle.infer_needs.proofs.FitParts.{alias_takes, alias_args}
 use Rattle.infer_needs.proofs.ReadsFit.{still_takes}
 use Rattle.infer_needs.proofs.Writing.{args_final, lists_at}

@@ -1,10 +1,6 @@
 use Rattle.std.proofs.Common.{List, map, subst, sym}
-use Rattle.goal_answers.specs.Goals.{Asked}
-use Rattle.goal_facts.specs.Goals.{asked_goal}
-use Rattle.goal_search.specs.Sources.{system}
-use Rattle.infer_needs.specs.Judged.{AreProvable}
-use Rattle.infer_needs.specs.Left.{Lists}
-use Rattle.infer_needs.specs.Written.{GoalsAreListed}
+use Rattle.infer_needs.specs.Words.{Asked, asked_goal, system}
+use Rattle.infer_needs.specs.Own.{AreProvable, Lists, GoalsAreListed}
 use Rattle.infer_needs.proofs.Provable.{needed_here}
 use Rattle.infer_needs.proofs.written.look_at_expr.Goals as goal
 

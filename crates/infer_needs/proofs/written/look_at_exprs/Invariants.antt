@@ -1,5 +1,5 @@
-use Rattle.goal_search.specs.Sources.{system}
-use Rattle.infer_needs.specs.Left.{Lists}
+use Rattle.infer_needs.specs.Words.{system}
+use Rattle.infer_needs.specs.Own.{Lists}
 use Rattle.infer_needs.proofs.Writing.{FirstHold, OfExpr}
 use Rattle.infer_needs.proofs.written.look_at_exprs.Given as goal
 

@@ -1,13 +1,6 @@
 use Rattle.std.proofs.Common.{◌≡◌, ap, subst, sym}
-use Rattle.hir_types.specs.Terms.{Term}
-use Rattle.goal_answers.specs.Goals.{Asked}
-use Rattle.goal_facts.specs.Goals.{asked_goal}
-use Rattle.goal_search.specs.Sources.{system}
-use Rattle.goal_terms.specs.Terms.{term_of}
-use Rattle.infer_result.specs.WrittenAliases.{WrittenAreListed}
-use Rattle.infer_needs.specs.FitTerms.{AliasesFitIn}
-use Rattle.infer_needs.specs.Left.{Lists}
-use Rattle.infer_needs.specs.Written.{IsAsWritten}
+use Rattle.infer_needs.specs.Words.{Term, Asked, asked_goal, system, term_of, WrittenAreListed}
+use Rattle.infer_needs.specs.Own.{AliasesFitIn, Lists, IsAsWritten}
 use Rattle.infer_needs.proofs.FitParts.{goal_aliases}
 use Rattle.infer_needs.proofs.Writing.{as_written, lists_goal}
 use Rattle.infer_needs.proofs.written.look_at_goal.Goals as goal

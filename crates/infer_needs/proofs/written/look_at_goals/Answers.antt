@@ -1,7 +1,7 @@
 use Rattle.std.proofs.Common.{◌≡◌, refl, arith, length}
 use Rattle.std.specs.Prelude.{Some, slice_get}
 use Rattle.std.proofs.lemmas.Option.{slice_get_read}
-use Rattle.goal_search.specs.Sources.{system}
+use Rattle.infer_needs.specs.Words.{system}
 use Rattle.infer_needs.proofs.FitParts.{goal_fits_at}
 use Rattle.infer_needs.proofs.Writing.{holds_first, holds_next, holds_all, OfGoal, goal_later, goals_of, provable_at}
 use Rattle.infer_needs.proofs.written.look_at_goals.Goals as goal

@@ -1,14 +1,7 @@
 use Rattle.std.proofs.Common.{◌≡◌, ◌∙◌, List, ap, map, subst, sym}
 use Rattle.std.specs.Prelude.{Option}
-use Rattle.hir_types.specs.declared.ty.Ty.{Ty, out-Ty}
-use Rattle.hir_raw.specs.declared.raw.RawFacts.{RawFacts}
-use Rattle.goal_answers.specs.Goals.{Asked}
-use Rattle.goal_facts.specs.Goals.{asked_goal}
-use Rattle.goal_search.specs.Sources.{system}
-use Rattle.infer_result.specs.Needs.{pat_needs_by, pat_needs_of}
-use Rattle.infer_needs.specs.Judged.{AreProvable}
-use Rattle.infer_needs.specs.Left.{Lists}
-use Rattle.infer_needs.specs.Written.{GoalsAreListed}
+use Rattle.infer_needs.specs.Words.{Ty, out-Ty, RawFacts, Asked, asked_goal, system, pat_needs_by, pat_needs_of}
+use Rattle.infer_needs.specs.Own.{AreProvable, Lists, GoalsAreListed}
 use Rattle.infer_needs.proofs.written.look_at_item.Goals as goal
 
 pub look_at_goals-requires-clause-provable : goal.look_at_goals-requires-clause-provable

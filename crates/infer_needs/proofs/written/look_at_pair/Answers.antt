@@ -1,7 +1,5 @@
 use Rattle.std.proofs.Common.{◌≡◌, ◌∙◌, ap, sym}
-use Rattle.goal_answers.specs.Reading.{plain, alias}
-use Rattle.goal_search.specs.Sources.{system}
-use Rattle.goal_terms.specs.Terms.{term_of, role_of}
+use Rattle.infer_needs.specs.Words.{plain, alias, system, term_of, role_of}
 use Rattle.infer_needs.proofs.Writing.{lists_over, lists_over_none}
 use Rattle.infer_needs.proofs.written.look_at_pair.Goals as goal
 

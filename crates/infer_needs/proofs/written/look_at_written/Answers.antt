@@ -1,9 +1,6 @@
 use Rattle.std.proofs.Common.{◌≡◌, ◌∙◌, ap, subst, sym}
-use Rattle.hir_raw.specs.declared.raw.RawFacts.{RawFacts}
-use Rattle.hir_raw.specs.Lets.{let_aliases}
-use Rattle.goal_search.specs.Sources.{system}
-use Rattle.infer_result.specs.OwnTypes.{aliases_of}
-use Rattle.infer_needs.specs.Written.{CanItemsBeProved}
+use Rattle.infer_needs.specs.Words.{RawFacts, let_aliases, system, aliases_of}
+use Rattle.infer_needs.specs.Own.{CanItemsBeProved}
 use Rattle.infer_needs.proofs.Writing.{items_provable, lists_all}
 use Rattle.infer_needs.proofs.written.look_at_written.Goals as goal
 

@@ -1,13 +1,6 @@
 use Rattle.std.proofs.Common.{◌≡◌, ◌∙◌, ap, subst, sym}
-use Rattle.hir_types.specs.Terms.{Term, term}
-use Rattle.hir_raw.specs.declared.raw.RawFacts.{RawFacts}
-use Rattle.hir_raw.specs.WrittenTypes.{lowered}
-use Rattle.goal_search.specs.Sources.{system}
-use Rattle.goal_terms.specs.Terms.{term_of}
-use Rattle.infer_result.specs.WrittenAliases.{WrittenAreListed}
-use Rattle.infer_needs.specs.FitTerms.{AliasesFitIn}
-use Rattle.infer_needs.specs.Left.{Lists}
-use Rattle.infer_needs.specs.Written.{IsAsWritten}
+use Rattle.infer_needs.specs.Words.{Term, term, RawFacts, lowered, system, term_of, WrittenAreListed}
+use Rattle.infer_needs.specs.Own.{AliasesFitIn, Lists, IsAsWritten}
 use Rattle.infer_needs.proofs.FitParts.{aliases_fit}
 use Rattle.infer_needs.proofs.Writing.{lowered_written}
 use Rattle.infer_needs.proofs.written.look_at_written_type.Goals as goal

@@ -1,6 +1,6 @@
 use Rattle.std.proofs.Common.{◌≡◌, length, arith}
 use Rattle.std.proofs.lemmas.Option.{slice_get-get_or}
-use Rattle.goal_search.specs.Sources.{system}
+use Rattle.infer_needs.specs.Words.{system}
 use Rattle.infer_needs.proofs.Writing.{holds_first, holds_next, holds_all, OfType, type_later}
 use Rattle.infer_needs.proofs.written.look_at_written_types.Goals as goal
 

@@ -1,9 +1,6 @@
 use Rattle.std.proofs.Common.{◌∙◌, subst, sym, true≢false}
-use Rattle.hir_types.specs.Terms.{term}
-use Rattle.hir_raw.specs.Scope.{Scope, scope_of}
-use Rattle.infer_table.specs.Preserved.{whole, IsMadeOf}
-use Rattle.infer_result.specs.OwnTypes.{is_read_head}
-use Rattle.infer_obligations.specs.Reading.{body_scope}
+use Rattle.infer_obligations.specs.Words.{term, Scope, scope_of, whole, IsMadeOf, is_read_head}
+use Rattle.infer_obligations.specs.Own.{body_scope}
 use Rattle.infer_obligations.proofs.InHand.{scope_is, not_in_hand, in_hand_if}
 use Rattle.infer_obligations.proofs.hand.is_in_hand.Goals as goal
 

@@ -1,8 +1,6 @@
 use Rattle.std.proofs.Common.{◌≡◌, ◌∙◌, ap, arith, length, List}
 use Rattle.std.proofs.lemmas.Option.{slice_get-get_or}
-use Rattle.hir_raw.specs.declared.raw.RawType.{RawType}
-use Rattle.hir_raw.specs.Lets.{let_aliases}
-use Rattle.goal_search.specs.Sources.{system}
+use Rattle.infer_obligations.specs.Words.{RawType, let_aliases, system}
 use Rattle.infer_obligations.proofs.LetsKnown.{notes_none, notes_next, all_noted}
 use Rattle.infer_obligations.proofs.lets.let_types.Goals as goal
 

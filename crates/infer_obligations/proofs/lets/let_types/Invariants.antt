@@ -1,6 +1,4 @@
-use Rattle.hir_raw.specs.Scope.{scope_of}
-use Rattle.goal_facts.specs.Systems.{IsSystemOf}
-use Rattle.goal_search.specs.Sources.{system}
+use Rattle.infer_obligations.specs.Words.{scope_of, IsSystemOf, system}
 use Rattle.infer_obligations.proofs.LetsKnown.{AreNotedTo}
 use Rattle.infer_obligations.proofs.lets.let_types.Given as goal
 

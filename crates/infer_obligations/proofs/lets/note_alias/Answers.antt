@@ -1,10 +1,5 @@
 use Rattle.std.proofs.Common.{◌∙◌, ap, sym, subst, refl, inl, inr, true≢false}
-use Rattle.hir_types.specs.Terms.{term}
-use Rattle.hir_raw.specs.Scope.{scope_of}
-use Rattle.hir_raw.specs.WrittenTypes.{lowered}
-use Rattle.goal_search.specs.Sources.{system}
-use Rattle.infer_result.specs.OwnTypes.{IsKnownAs, HoldsPlaceholder}
-use Rattle.infer_ctx.specs.Found.{put}
+use Rattle.infer_obligations.specs.Words.{term, scope_of, lowered, system, IsKnownAs, HoldsPlaceholder, put}
 use Rattle.infer_obligations.proofs.LetsKnown.{read_noted, none_read}
 use Rattle.infer_obligations.proofs.lets.note_alias.Goals as goal
 

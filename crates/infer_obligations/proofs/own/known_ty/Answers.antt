@@ -1,8 +1,5 @@
 use Rattle.std.proofs.Common.{◌∙◌, sym, subst, true≢false}
-use Rattle.hir_raw.specs.Scope.{scope_of}
-use Rattle.infer_table.specs.Table.{resolved_type}
-use Rattle.goal_facts.specs.Reading.{IsTypeRead}
-use Rattle.goal_search.specs.Sources.{system}
+use Rattle.infer_obligations.specs.Words.{scope_of, resolved_type, IsTypeRead, system}
 use Rattle.infer_obligations.proofs.Known.{known_read, known_not, known_none}
 use Rattle.infer_obligations.proofs.own.known_ty.Goals as goal
 

@@ -1,8 +1,6 @@
 use Rattle.std.proofs.Common.{sym, subst, ◌+◌, take}
 use Rattle.std.proofs.lemmas.List.{get_or_default}
-use Rattle.hir_raw.specs.Scope.{scope_of}
-use Rattle.goal_search.specs.Sources.{system}
-use Rattle.infer_result.specs.OwnTypes.{EachIsKnownAs}
+use Rattle.infer_obligations.specs.Words.{scope_of, system, EachIsKnownAs}
 use Rattle.infer_obligations.proofs.Known.{each_more}
 use Rattle.infer_obligations.proofs.own.known_tys.Goals as goal
 

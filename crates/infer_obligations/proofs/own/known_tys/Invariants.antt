@@ -1,7 +1,5 @@
 use Rattle.std.proofs.Common.{take}
-use Rattle.hir_raw.specs.Scope.{scope_of}
-use Rattle.goal_search.specs.Sources.{system}
-use Rattle.infer_result.specs.OwnTypes.{EachIsKnownAs}
+use Rattle.infer_obligations.specs.Words.{scope_of, system, EachIsKnownAs}
 use Rattle.infer_obligations.proofs.own.known_tys.Given as goal
 
 abbrev pub invariant-loop-type_ref : goal.invariant-loop-type_ref

@@ -1,5 +1,5 @@
 use Rattle.std.proofs.Common.{◌≡◌, Some, map, take}
-use Rattle.hir_raw.specs.WrittenTypes.{written_type}
+use Rattle.infer_obligations.specs.Words.{written_type}
 use Rattle.infer_obligations.proofs.own.written_tys.Given as goal
 
 abbrev pub invariant-loop-type_ref : goal.invariant-loop-type_ref

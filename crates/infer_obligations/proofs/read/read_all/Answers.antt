@@ -1,6 +1,5 @@
 use Rattle.std.proofs.Common.{sym, ap, ◌∙◌}
-use Rattle.hir_raw.specs.declared.raw.RawFacts.{RawFacts}
-use Rattle.infer_ctx.specs.Context.{given_of}
+use Rattle.infer_obligations.specs.Words.{RawFacts, given_of}
 use Rattle.infer_obligations.proofs.ReadNeeds.{begins_times, once_more, bound_none, often_enough}
 use Rattle.infer_obligations.proofs.read.read_all.Goals as goal
 

@@ -1,6 +1,6 @@
 use Rattle.std.proofs.Common.{refl}
 use Rattle.std.proofs.lemmas.Option.{slice_get_read}
-use Rattle.infer_ctx.specs.Context.{given_of}
+use Rattle.infer_obligations.specs.Words.{given_of}
 use Rattle.infer_obligations.proofs.ReadNeeds.{begins_reading, reads_on, ends_reading}
 use Rattle.infer_obligations.proofs.read.read_each.Goals as goal
 

@@ -1,4 +1,4 @@
-use Rattle.infer_ctx.specs.Context.{given_of}
+use Rattle.infer_obligations.specs.Words.{given_of}
 use Rattle.infer_obligations.proofs.ReadNeeds.{begins_paths, paths_on, ends_paths}
 use Rattle.infer_obligations.proofs.read.read_paths.Goals as goal
 

@@ -1,4 +1,4 @@
-use Rattle.infer_ctx.specs.Context.{given_of}
+use Rattle.infer_obligations.specs.Words.{given_of}
 use Rattle.infer_obligations.proofs.ReadNeeds.{selects_and_reads}
 use Rattle.infer_obligations.proofs.read.select_and_read.Goals as goal
 

@@ -1,4 +1,4 @@
-use Rattle.infer_ctx.specs.Context.{given_of}
+use Rattle.infer_obligations.specs.Words.{given_of}
 use Rattle.infer_obligations.proofs.ReadNeeds.{settles_needs}
 use Rattle.infer_obligations.proofs.read.settle_needs.Goals as goal
 

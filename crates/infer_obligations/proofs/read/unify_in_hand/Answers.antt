@@ -1,4 +1,4 @@
-use Rattle.infer_ctx.specs.Context.{scope_in}
+use Rattle.infer_obligations.specs.Words.{scope_in}
 use Rattle.infer_obligations.proofs.InHand.{in_hand_fine}
 use Rattle.infer_obligations.proofs.read.unify_in_hand.Goals as goal
 

@@ -2,12 +2,8 @@ use Rattle.std.proofs.Common.{◌≡◌, ◌∷◌, [], length, refl, sym, ap, �
 use Rattle.std.proofs.lemmas.List.{nil_from_length}
 use Rattle.std.specs.Vec.Iter.{into_iter_items}
 use Rattle.hir_types.specs.declared.ids.ExprOrPatId.TheVariants as node
-use Rattle.hir_raw.specs.declared.raw.RawFacts.{RawFacts}
-use Rattle.infer_table.specs.Table.{State}
-use Rattle.goal_facts.specs.Goals.{ItemSources}
-use Rattle.goal_select.specs.Steps.{GoalIsOf}
-use Rattle.goal_tree.specs.Trees.{IsAsked, registered}
-use Rattle.infer_obligations.specs.Registering.{asked_for, Registers}
+use Rattle.infer_obligations.specs.Words.{RawFacts, State, ItemSources, GoalIsOf, IsAsked, registered}
+use Rattle.infer_obligations.specs.Own.{asked_for, Registers}
 use Rattle.infer_obligations.proofs.Registering.{registers_none, registers_next, next_is, all_were}
 use Rattle.infer_obligations.proofs.register.register_each.Goals as goal
 

@@ -1,9 +1,7 @@
 use Rattle.std.proofs.Common.{◌≡◌, ◌++◌, length, map}
 use Rattle.std.specs.Vec.Iter.{into_iter_items, into_iter_len}
-use Rattle.goal_search.specs.Sources.{system}
-use Rattle.goal_facts.specs.Goals.{asked_goal}
-use Rattle.infer_goals.specs.Obligations.{AreKept, HasAllOpen}
-use Rattle.infer_obligations.specs.Registering.{asked_for, Registers}
+use Rattle.infer_obligations.specs.Words.{system, asked_goal, AreKept, HasAllOpen}
+use Rattle.infer_obligations.specs.Own.{asked_for, Registers}
 use Rattle.infer_obligations.proofs.register.register_each.Given as goal
 
 abbrev pub invariant-loop-goal : goal.invariant-loop-goal

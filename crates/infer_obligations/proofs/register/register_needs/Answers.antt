@@ -1,8 +1,7 @@
 use Rattle.std.proofs.Common.{◌≡◌, Some, ap, ◌∙◌, refl, slice_get, subst, sym}
 use Rattle.std.proofs.lemmas.Option.{same_Some, slice_get_read}
-use Rattle.hir_raw.specs.declared.raw.RawExpr.{RawExpr}
-use Rattle.infer_result.specs.Needs.{needed_goals}
-use Rattle.infer_obligations.specs.Registering.{asked_for, Registers}
+use Rattle.infer_obligations.specs.Words.{RawExpr, needed_goals}
+use Rattle.infer_obligations.specs.Own.{asked_for, Registers}
 use Rattle.infer_obligations.proofs.NeedHoles.{needed_made}
 use Rattle.infer_obligations.proofs.register.register_needs.Goals as goal
 

@@ -1,4 +1,4 @@
-use Rattle.infer_ctx.specs.Context.{given_of}
+use Rattle.infer_obligations.specs.Words.{given_of}
 use Rattle.infer_obligations.proofs.Walking.{selects_in_walk}
 use Rattle.infer_obligations.proofs.select.select_obligations_where_possible.Goals as goal
 

@@ -1,8 +1,5 @@
 use Rattle.std.proofs.Common.{◌≡◌, false, subst, ◌∙◌}
-use Rattle.goal_search.specs.Sources.{system}
-use Rattle.goal_facts.specs.Goals.{ItemSources}
-use Rattle.infer_goals.specs.Kept.{kept_grows, all_grows}
-use Rattle.infer_goals.specs.Obligations.{AreKept, Went, NoneLeft}
+use Rattle.infer_obligations.specs.Words.{system, ItemSources, kept_grows, all_grows, AreKept, Went, NoneLeft}
 use Rattle.infer_obligations.proofs.select.select_registered.Goals as goal
 
 -- what is kept stays so where integer types alone were put in

@@ -1,6 +1,6 @@
 use Rattle.std.specs.Option.{option_copied}
 use Rattle.std.proofs.Common.{sym, ap, ◌∙◌}
-use Rattle.infer_ctx.specs.Context.{expected_type}
+use Rattle.infer_pat.specs.Words.{expected_type}
 use Rattle.infer_pat.proofs.Literals.{expected_at}
 use Rattle.infer_pat.proofs.literal.expected_integer.Goals as goal
 

@@ -1,9 +1,9 @@
 use Rattle.std.proofs.Common.{◌≡◌, ◌∙◌, refl, sym, ap, Some, slice_get}
 use Rattle.std.proofs.lemmas.Option.{slice_get_read}
-use Rattle.hir_raw.specs.declared.raw.RawExpr.TheVariants as expr
-use Rattle.infer_ctx.specs.Context.{expected_type}
-use Rattle.infer_ctx.proofs.Carried.{carried_expr}
-use Rattle.infer_pat.specs.Literals.{literal_type_at}
+use Rattle.infer_pat.specs.Words.hir_raw.declared.raw.RawExpr.TheVariants as expr
+use Rattle.infer_pat.specs.Words.{expected_type}
+use Rattle.infer_pat.proofs.Words.{carried_expr}
+use Rattle.infer_pat.specs.Own.{literal_type_at}
 use Rattle.infer_pat.proofs.Literals.{literal_kind}
 use Rattle.infer_pat.proofs.literal.infer_literal.Goals as goal
 

@@ -1,9 +1,7 @@
 use Rattle.std.proofs.Common.{sym, subst, Option, ◌∙◌}
-use Rattle.hir_types.specs.declared.ty.Ty.{Ty}
+use Rattle.infer_pat.specs.Words.{Ty, hole_count, scope_in, expected_type, with_table}
 use Rattle.hir_types.specs.declared.ty.Ty.TheVariants as ty
-use Rattle.infer_table.specs.Table.{hole_count}
-use Rattle.infer_ctx.specs.Context.{scope_in, expected_type, with_table}
-use Rattle.infer_pat.specs.Literals.{IntDone}
+use Rattle.infer_pat.specs.Own.{IntDone}
 use Rattle.infer_pat.proofs.Literals.{known_int, int_hole}
 use Rattle.infer_pat.proofs.literal.infer_unsuffixed.Goals as goal
 

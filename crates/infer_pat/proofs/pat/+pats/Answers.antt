@@ -2,14 +2,10 @@ use Rattle.std.proofs.Common.{arith, ◌<◌, ◌≡◌, ◌∙◌, inr, ap, ref
 use Rattle.std.proofs.lemmas.Option.{slice_get_read}
 use Rattle.std.proofs.lemmas.List.{get_or_default}
 use Rattle.hir_types.specs.declared.ids.ExprOrPatId.TheVariants as node
-use Rattle.hir_raw.specs.Order.{inner}
-use Rattle.hir_raw.specs.declared.raw.RawPat.TheVariants as pat
-use Rattle.infer_ctx.specs.Closings.{IsSound}
-use Rattle.infer_ctx.specs.Fine.{IsFine, IsFineExpectation}
-use Rattle.infer_ctx.specs.Context.{given_of, scope_in, schedule_of, entered}
-use Rattle.infer_ctx.proofs.UnderClosings.{sound_entered}
-use Rattle.infer_ctx.proofs.FineTypes.{every_from, fine_expectation_grown, fine_tuple}
-use Rattle.infer_pat.specs.Patterns.{PatDone, IsGivenOrNew}
+use Rattle.infer_pat.specs.Words.{inner, IsSound, IsFine, IsFineExpectation, given_of, scope_in, schedule_of, entered}
+use Rattle.infer_pat.specs.Words.hir_raw.declared.raw.RawPat.TheVariants as pat
+use Rattle.infer_pat.proofs.Words.{sound_entered, every_from, fine_expectation_grown, fine_tuple}
+use Rattle.infer_pat.specs.Own.{PatDone, IsGivenOrNew}
 use Rattle.infer_pat.proofs.PatWalk.{wild_walked, bind_walked, bind_within}
 use Rattle.infer_pat.proofs.TuplePats.{tuple_pat_begun, begins_tuple_pat, comes_to_part, goes_past_part, ends_tuple_pat, hands_parts}
 use Rattle.infer_pat.proofs.CtorPatWalk.{ctor_pat_begun, begun_clock, begins_ctor_pat, comes_to_ctor_part, goes_past_ctor_part, ends_ctor_pat}

@@ -1,5 +1,5 @@
 use Rattle.std.proofs.Common.{◌+◌, ◌-◌, ◌*◌, ◌^◌}
-use Rattle.infer_ctx.specs.Context.{given_of, schedule_of}
+use Rattle.infer_pat.specs.Words.{given_of, schedule_of}
 use Rattle.infer_pat.proofs.TuplePats.{TupleParts}
 use Rattle.infer_pat.proofs.CtorPatWalk.{CtorParts}
 use Rattle.infer_pat.proofs.pat.+pats.Given as goal

@@ -1,10 +1,7 @@
 use Rattle.std.proofs.Common.{rules, ◌≡◌, ◌∙◌, Some, slice_get, sym, subst, ap}
-use Rattle.hir_types.specs.declared.ty.Ty.{Ty}
+use Rattle.infer_pat.specs.Words.{Ty, State, scope_in, IsFine, IsFineExpectation}
 use Rattle.hir_types.specs.declared.ty.Ty.TheVariants as ty
-use Rattle.infer_table.specs.Table.{State}
-use Rattle.infer_ctx.specs.Context.{scope_in}
-use Rattle.infer_ctx.specs.Fine.{IsFine, IsFineExpectation}
-use Rattle.infer_ctx.proofs.FineTypes.{fine_part}
+use Rattle.infer_pat.proofs.Words.{fine_part}
 use Rattle.infer_pat.proofs.Components.{component_at, tuple_component}
 use Rattle.infer_pat.proofs.PatHoles.{resolved_fine}
 use Rattle.infer_pat.proofs.pat.component.Goals as goal

@@ -1,17 +1,9 @@
 use Rattle.std.proofs.Common.{◌≡◌, ◌<◌, ◌≤◌, ◌∙◌, arith, sym, subst, length, map, slice_get, take, Some}
 use Rattle.hir_types.specs.declared.ids.CallableDefId.TheVariants as callable
 use Rattle.hir_types.specs.declared.ty.Ty.TheVariants as ty
-use Rattle.hir_raw.specs.Scope.{variant_arity}
-use Rattle.hir_raw.specs.Signatures.{variant_types}
-use Rattle.hir_raw.specs.declared.raw.RawVariant.{RawVariant}
-use Rattle.infer_result.specs.Closed.{IsOfBody}
-use Rattle.infer_ctx.specs.Callables.{field_at}
-use Rattle.infer_ctx.specs.Context.{given_of}
-use Rattle.infer_ctx.proofs.AtEach.{follows_twice}
-use Rattle.infer_ctx.proofs.FineTypes.{fine_grown, fine_expectation_grown}
-use Rattle.infer_ctx.proofs.UnderClosings.{of_body_pat_item, sound_pat_item}
-use Rattle.infer_obligations.specs.Reading.{ReadsPat}
-use Rattle.infer_pat.specs.Patterns.{PartsCounted}
+use Rattle.infer_pat.specs.Words.{variant_arity, variant_types, RawVariant, IsOfBody, field_at, given_of, ReadsPat}
+use Rattle.infer_pat.proofs.Words.{follows_twice, fine_grown, fine_expectation_grown, of_body_pat_item, sound_pat_item}
+use Rattle.infer_pat.specs.Own.{PartsCounted}
 use Rattle.infer_pat.proofs.CtorPatWalk.{counted_follows, own_adt_fine, ctor_demanded, item_is_fine, item_read, no_item_read}
 use Rattle.infer_pat.proofs.PathWalk.{ctor_holed}
 use Rattle.infer_pat.proofs.pat.demand_ctor.Goals as goal

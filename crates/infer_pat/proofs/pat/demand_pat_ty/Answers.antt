@@ -1,9 +1,7 @@
 use Rattle.std.proofs.Common.{◌∙◌, ap, true, false, sym, subst}
-use Rattle.infer_result.specs.Table.{mismatch}
-use Rattle.infer_ctx.specs.Context.{given_of, scope_in, with_pat_ty, with_pat_mismatch}
-use Rattle.infer_ctx.specs.Fine.{IsFine, IsFineExpectation}
-use Rattle.infer_coerce.specs.MadeEqual.{IsUnifiedIf}
-use Rattle.infer_pat.specs.Patterns.{PatDemanded}
+use Rattle.infer_pat.specs.Words.{mismatch, given_of, scope_in, with_pat_mismatch, IsFine, IsFineExpectation, IsUnifiedIf}
+use Rattle.infer_pat.specs.Words.infer_ctx.Context.{with_pat_ty}
+use Rattle.infer_pat.specs.Own.{PatDemanded}
 use Rattle.infer_pat.proofs.PatHoles.{demanded_nothing, demanded_unified, demanded_refused}
 use Rattle.infer_pat.proofs.pat.demand_pat_ty.Goals as goal
 

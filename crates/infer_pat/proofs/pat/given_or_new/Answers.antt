@@ -1,8 +1,7 @@
 use Rattle.std.proofs.Common.{sym, subst, None}
 use Rattle.hir_types.specs.declared.ty.Ty.TheVariants as ty
-use Rattle.infer_table.specs.Table.{hole_count}
-use Rattle.infer_ctx.specs.Context.{scope_in, with_table}
-use Rattle.infer_pat.specs.Patterns.{IsGivenOrNew}
+use Rattle.infer_pat.specs.Words.{hole_count, scope_in, with_table}
+use Rattle.infer_pat.specs.Own.{IsGivenOrNew}
 use Rattle.infer_pat.proofs.PatHoles.{new_one}
 use Rattle.infer_pat.proofs.pat.given_or_new.Goals as goal
 

@@ -1,7 +1,6 @@
 use Rattle.std.proofs.Common.{refl, sym, subst}
-use Rattle.infer_ctx.specs.Context.{given_of, schedule_of, expected_type, entered}
-use Rattle.infer_ctx.specs.Steps.{Before, OwnDone}
-use Rattle.infer_pat.specs.Patterns.{PatDone}
+use Rattle.infer_pat.specs.Words.{given_of, schedule_of, expected_type, entered, Before, OwnDone}
+use Rattle.infer_pat.specs.Own.{PatDone}
 use Rattle.infer_pat.proofs.PatWalk.{FitsExpected, comes_to_lit, lit_walked}
 use Rattle.infer_pat.proofs.pat.infer_lit_pat.Goals as goal
 

@@ -1,7 +1,6 @@
 use Rattle.std.proofs.Common.{◌∙◌, refl, sym, ap, subst}
-use Rattle.infer_ctx.specs.Context.{given_of, schedule_of, expected_type, with_expr_ty}
-use Rattle.infer_ctx.specs.Steps.{Within, OwnDone, KindDone}
-use Rattle.infer_ctx.proofs.Expressions.{comes_within, own_done}
+use Rattle.infer_pat.specs.Words.{given_of, schedule_of, expected_type, with_expr_ty, Within, OwnDone, KindDone}
+use Rattle.infer_pat.proofs.Words.{comes_within, own_done}
 use Rattle.infer_pat.proofs.PatLiterals.{told_literal}
 use Rattle.infer_pat.proofs.pat.infer_pat_literal.Goals as goal
 

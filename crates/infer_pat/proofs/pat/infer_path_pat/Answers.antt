@@ -1,10 +1,7 @@
 use Rattle.std.proofs.Common.{sym, subst}
-use Rattle.infer_ctx.specs.Context.{given_of, scope_in}
-use Rattle.infer_ctx.specs.Closings.{IsSound}
-use Rattle.infer_ctx.specs.Fine.{IsFineExpectation}
-use Rattle.infer_ctx.proofs.UnderClosings.{sound_entered}
-use Rattle.infer_ctx.proofs.FineTypes.{fine_expectation_grown}
-use Rattle.infer_pat.specs.Paths.{PathDone}
+use Rattle.infer_pat.specs.Words.{given_of, scope_in, IsSound, IsFineExpectation}
+use Rattle.infer_pat.proofs.Words.{sound_entered, fine_expectation_grown}
+use Rattle.infer_pat.specs.Own.{PathDone}
 use Rattle.infer_pat.proofs.CtorPatWalk.{path_pat_named, path_pat_walked}
 use Rattle.infer_pat.proofs.pat.infer_path_pat.Goals as goal
 

@@ -1,7 +1,7 @@
 use Rattle.std.proofs.Common.{◌+◌, sym, subst}
-use Rattle.infer_ctx.specs.Context.{scope_in}
-use Rattle.infer_ctx.proofs.FineTypes.{fine_expectation_grown}
-use Rattle.infer_pat.specs.Patterns.{AreTupleParts}
+use Rattle.infer_pat.specs.Words.{scope_in}
+use Rattle.infer_pat.proofs.Words.{fine_expectation_grown}
+use Rattle.infer_pat.specs.Own.{AreTupleParts}
 use Rattle.infer_pat.proofs.Components.{no_tuple_part, tuple_part_more}
 use Rattle.infer_pat.proofs.pat.part_tys.Goals as goal
 

@@ -1,5 +1,5 @@
-use Rattle.infer_ctx.specs.Context.{scope_in}
-use Rattle.infer_pat.specs.Patterns.{AreTupleParts}
+use Rattle.infer_pat.specs.Words.{scope_in}
+use Rattle.infer_pat.specs.Own.{AreTupleParts}
 use Rattle.infer_pat.proofs.pat.part_tys.Given as goal
 
 abbrev pub invariant-loop-i : goal.invariant-loop-i

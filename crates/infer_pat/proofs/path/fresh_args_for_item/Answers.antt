@@ -1,9 +1,8 @@
 use Rattle.std.proofs.Common.{◌+◌, ◌++◌, ◌∷◌, [], sym, subst}
 use Rattle.hir_types.specs.declared.ty.GenericArg.TheVariants as arg
 use Rattle.hir_types.specs.declared.ty.Ty.TheVariants as ty
-use Rattle.infer_table.specs.Table.{hole_count}
-use Rattle.infer_ctx.specs.Context.{scope_in, with_table}
-use Rattle.infer_pat.specs.Paths.{AreFreshArgs}
+use Rattle.infer_pat.specs.Words.{hole_count, scope_in, with_table}
+use Rattle.infer_pat.specs.Own.{AreFreshArgs}
 use Rattle.infer_pat.proofs.PathWalk.{fresh_start, fresh_more}
 use Rattle.infer_pat.proofs.path.fresh_args_for_item.Goals as goal
 

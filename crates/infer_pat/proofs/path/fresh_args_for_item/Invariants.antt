@@ -1,5 +1,5 @@
-use Rattle.infer_ctx.specs.Context.{scope_in}
-use Rattle.infer_pat.specs.Paths.{AreFreshArgs}
+use Rattle.infer_pat.specs.Words.{scope_in}
+use Rattle.infer_pat.specs.Own.{AreFreshArgs}
 use Rattle.infer_pat.proofs.path.fresh_args_for_item.Given as goal
 
 abbrev pub invariant-loop : goal.invariant-loop

@@ -1,11 +1,9 @@
 use Rattle.std.proofs.Common.{◌∙◌, ap, sym, subst}
 use Rattle.hir_types.specs.declared.ids.CallableDefId.TheVariants as callable
 use Rattle.hir_types.specs.declared.ty.Ty.TheVariants as ty
-use Rattle.hir_raw.specs.Signatures.{type_args}
-use Rattle.hir_raw.specs.declared.raw.RawVariant.{RawVariant}
-use Rattle.hir_raw.specs.declared.raw.RawPath.TheVariants as path
-use Rattle.infer_ctx.specs.Context.{given_of}
-use Rattle.infer_pat.specs.Paths.{PathDone}
+use Rattle.infer_pat.specs.Words.{type_args, RawVariant, given_of}
+use Rattle.infer_pat.specs.Words.hir_raw.declared.raw.RawPath.TheVariants as path
+use Rattle.infer_pat.specs.Own.{PathDone}
 use Rattle.infer_pat.proofs.PathWalk.{ctor_holed, unit_path, tuple_path}
 use Rattle.infer_pat.proofs.path.infer_ctor_path.Goals as goal
 

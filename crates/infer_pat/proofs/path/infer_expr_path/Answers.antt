@@ -2,10 +2,9 @@ use Rattle.std.specs.Option.{option_copied}
 use Rattle.std.proofs.Common.{◌∙◌, ap, sym, subst}
 use Rattle.hir_types.specs.declared.ids.CallableDefId.TheVariants as callable
 use Rattle.hir_types.specs.declared.ty.Ty.TheVariants as ty
-use Rattle.hir_raw.specs.Scope.{fn_arity}
-use Rattle.hir_raw.specs.declared.raw.RawPath.TheVariants as path
-use Rattle.infer_ctx.specs.Context.{given_of}
-use Rattle.infer_pat.specs.Paths.{PathDone, AreFreshArgs, NamesTyped}
+use Rattle.infer_pat.specs.Words.{fn_arity, given_of}
+use Rattle.infer_pat.specs.Words.hir_raw.declared.raw.RawPath.TheVariants as path
+use Rattle.infer_pat.specs.Own.{PathDone, AreFreshArgs, NamesTyped}
 use Rattle.infer_pat.proofs.PathWalk.{local_path, fn_size, function_path, recorded_at}
 use Rattle.infer_pat.proofs.path.infer_expr_path.Goals as goal
 

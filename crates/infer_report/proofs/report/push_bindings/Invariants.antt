@@ -1,5 +1,5 @@
 use Rattle.std.proofs.Common.{◌≡◌, ◌++◌, drop, string_bytes}
-use Rattle.infer_result.specs.Report.{binding_line, lines_from}
+use Rattle.infer_report.specs.Words.{binding_line, lines_from}
 use Rattle.infer_report.proofs.report.push_bindings.Given as goal
 
 abbrev pub invariant-loop-at : goal.invariant-loop-at

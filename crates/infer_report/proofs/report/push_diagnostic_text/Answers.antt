@@ -1,6 +1,6 @@
 use Rattle.std.proofs.Common.{string_bytes, codes, ◌++◌, sym, subst, ◌≡◌, OnOk}
 use Rattle.std.specs.Fmt.{decimal}
-use Rattle.infer_result.specs.Report.{diagnostic_text, node_text, type_field}
+use Rattle.infer_report.specs.Words.{diagnostic_text, node_text, type_field}
 use Rattle.infer_report.proofs.Lines.{two_pieces, then_piece}
 use Rattle.infer_report.proofs.report.push_diagnostic_text.Goals as goal
 

@@ -1,5 +1,5 @@
 use Rattle.std.proofs.Common.{string_bytes}
-use Rattle.infer_result.specs.Report.{expr_line}
+use Rattle.infer_report.specs.Words.{expr_line}
 use Rattle.infer_report.proofs.Lines.{writes_on, is_written}
 use Rattle.infer_report.proofs.report.push_exprs.Goals as goal
 

@@ -1,5 +1,5 @@
 use Rattle.std.proofs.Common.{◌≡◌, ◌++◌, drop, string_bytes}
-use Rattle.infer_result.specs.Report.{gap_line, lines_from}
+use Rattle.infer_report.specs.Words.{gap_line, lines_from}
 use Rattle.infer_report.proofs.report.push_gaps.Given as goal
 
 abbrev pub invariant-loop-gap : goal.invariant-loop-gap

@@ -1,5 +1,5 @@
 use Rattle.std.proofs.Common.{◌≡◌, ◌++◌, drop, string_bytes}
-use Rattle.infer_result.specs.Report.{pat_line, lines_from}
+use Rattle.infer_report.specs.Words.{pat_line, lines_from}
 use Rattle.infer_report.proofs.report.push_pats.Given as goal
 
 abbrev pub invariant-loop-at : goal.invariant-loop-at

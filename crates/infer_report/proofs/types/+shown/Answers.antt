@@ -1,5 +1,5 @@
 use Rattle.std.proofs.Common.{◌++◌, ◌∙◌, ◌<◌, ◌≤◌, List, length, ℕ, ap, append_assoc, arith, codes, string_bytes}
-use Rattle.infer_result.specs.Report.{arg_text, ty_text, lines_from}
+use Rattle.infer_report.specs.Words.{arg_text, ty_text, lines_from}
 use Rattle.infer_report.proofs.LaterArgs.{later_of, closes_later}
 use Rattle.infer_report.proofs.OwnArgs.{own_written}
 use Rattle.infer_report.proofs.Lines.{joins_on, writes_on, is_written}

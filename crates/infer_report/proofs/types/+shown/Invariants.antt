@@ -1,5 +1,5 @@
 use Rattle.std.proofs.Common.{◌≡◌, ◌++◌, drop, map, take, string_bytes}
-use Rattle.infer_result.specs.Report.{arg_text, ty_text, joined, lines_from}
+use Rattle.infer_report.specs.Words.{arg_text, ty_text, joined, lines_from}
 use Rattle.infer_report.proofs.LaterArgs.{later_of}
 use Rattle.infer_report.proofs.types.+shown.Given as goal
 

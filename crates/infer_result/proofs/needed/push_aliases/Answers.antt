@@ -1,7 +1,7 @@
 use Rattle.std.proofs.Common.{arith, get_or, ◌++◌, ap, ◌∙◌}
 use Rattle.std.specs.Prelude.{map, slice_get}
-use Rattle.goal_facts.specs.Goals.{asked_goal}
-use Rattle.infer_result.specs.AliasNeeds.{alias_goals_by}
+use Rattle.infer_result.specs.Words.{asked_goal}
+use Rattle.infer_result.specs.Own.{alias_goals_by}
 use Rattle.infer_result.proofs.AliasGoals.{up_to_next}
 use Rattle.infer_result.proofs.needed.push_aliases.Goals as goal
 

@@ -1,7 +1,7 @@
 use Rattle.std.proofs.Common.{◌++◌}
 use Rattle.std.specs.Prelude.{map}
-use Rattle.goal_facts.specs.Goals.{asked_goal}
-use Rattle.infer_result.specs.AliasNeeds.{alias_goals_from}
+use Rattle.infer_result.specs.Words.{asked_goal}
+use Rattle.infer_result.specs.Own.{alias_goals_from}
 use Rattle.infer_result.proofs.AliasGoals.{AreUpTo}
 use Rattle.infer_result.proofs.needed.push_aliases.Given as goal
 

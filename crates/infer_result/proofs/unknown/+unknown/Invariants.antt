@@ -1,6 +1,6 @@
 use Rattle.std.proofs.Common.{◌≡◌, false, take}
 use Rattle.std.specs.List.{list_any}
-use Rattle.infer_result.specs.Unknown.{has_unknown, arg_has_unknown, bound_has_unknown}
+use Rattle.infer_result.specs.Own.{has_unknown, arg_has_unknown, bound_has_unknown}
 use Rattle.infer_result.proofs.unknown.+unknown.Given as goal
 
 abbrev pub invariant-any_unknown-loop-ty : goal.invariant-any_unknown-loop-ty

@@ -1,6 +1,5 @@
 use Rattle.std.proofs.Common.{◌≡◌, ◌+◌, ◌*◌, false, take}
-use Rattle.hir_types.specs.Terms.{chain, occurs}
-use Rattle.hir_types.specs.Outlines.{part_terms}
+use Rattle.infer_table.specs.Words.{chain, occurs, part_terms}
 use Rattle.infer_table.proofs.equate.+stands.Given as goal
 
 -- the levels that are left, and then how near a function stands to the next type

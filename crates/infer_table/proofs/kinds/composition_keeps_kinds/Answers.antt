@@ -1,7 +1,6 @@
 use Rattle.std.proofs.Common.{sym, subst}
-use Rattle.hir_types.specs.Terms.{IsInt, terms_of}
-use Rattle.infer_table.specs.Resolution.{terms_composed}
-use Rattle.infer_table.specs.TermLemmas.{is_int_apply}
+use Rattle.infer_table.specs.Words.{IsInt, terms_of}
+use Rattle.infer_table.specs.Own.{terms_composed, is_int_apply}
 use Rattle.infer_table.proofs.kinds.composition_keeps_kinds.Goals as goal
 
 pub returns : goal.returns

@@ -1,4 +1,4 @@
-use Rattle.infer_table.specs.Waiting.{AllTakenBelow}
+use Rattle.infer_table.specs.Own.{AllTakenBelow}
 use Rattle.infer_table.proofs.queue.first_left.Given as goal
 
 abbrev pub invariant-loop-at : goal.invariant-loop-at

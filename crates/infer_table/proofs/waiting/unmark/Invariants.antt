@@ -1,5 +1,5 @@
 use Rattle.std.proofs.Common.{◌≡◌, take}
-use Rattle.infer_table.specs.Waiting.{AreMarked, pairs_of}
+use Rattle.infer_table.specs.Own.{AreMarked, pairs_of}
 use Rattle.infer_table.proofs.waiting.unmark.Given as goal
 
 abbrev pub invariant-loop-taken : goal.invariant-loop-taken

@@ -1,6 +1,6 @@
 use Rattle.std.proofs.Common.{◌≡◌}
 use Rattle.serde_json.specs.View.{members_view}
-use Rattle.infer_text.specs.Abstract.{lang_items}
+use Rattle.infer_text.specs.Own.{lang_items}
 use Rattle.infer_text.proofs.Items.{with_front}
 use Rattle.infer_text.proofs.abstractions.lang_items.Given as goal
 

@@ -1,6 +1,6 @@
 use Rattle.std.proofs.Common.{◌≡◌, drop}
 use Rattle.serde_json.specs.View.{items_view}
-use Rattle.infer_text.specs.Reading.{read_each}
+use Rattle.infer_text.specs.Own.{read_each}
 use Rattle.infer_text.proofs.Items.{with_front}
 use Rattle.infer_text.proofs.reader.items_of.Given as goal
 

@@ -1,5 +1,5 @@
 use Rattle.std.proofs.Common.{ap}
-use Rattle.infer_ctx.specs.Context.{expected_type}
+use Rattle.infer_tuples.specs.Words.{expected_type}
 use Rattle.infer_tuples.proofs.Elements.{places_element, waits_sound, own_fine, component_fine, element_waits}
 use Rattle.infer_tuples.proofs.tuple.infer_element.Goals as goal
 

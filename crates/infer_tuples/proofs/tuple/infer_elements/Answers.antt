@@ -1,5 +1,5 @@
 use Rattle.std.proofs.lemmas.List.{get_or_default}
-use Rattle.infer_coerce.proofs.Later.{later}
+use Rattle.infer_tuples.proofs.Words.{later}
 use Rattle.infer_tuples.proofs.Tuples.{begins_tuple, comes_to_element, goes_past_element, ends_tuple}
 use Rattle.infer_tuples.proofs.tuple.infer_elements.Goals as goal
 

@@ -1,4 +1,4 @@
-use Rattle.infer_ctx.specs.Context.{given_of, schedule_of}
+use Rattle.infer_tuples.specs.Words.{given_of, schedule_of}
 use Rattle.infer_tuples.proofs.Tuples.{AtElement}
 use Rattle.infer_tuples.proofs.tuple.infer_elements.Given as goal
 

@@ -1,8 +1,7 @@
 use Rattle.std.proofs.Common.{sym, subst}
 use Rattle.std.proofs.lemmas.Result.{IfOk-weaker}
-use Rattle.infer_ctx.specs.Context.{scope_in}
-use Rattle.infer_ctx.specs.Fine.{IsFineExpectation}
-use Rattle.infer_ctx.proofs.Expected.{within_for_any, kind_for_any}
+use Rattle.infer_tuples.specs.Words.{scope_in, IsFineExpectation}
+use Rattle.infer_tuples.proofs.Words.{within_for_any, kind_for_any}
 use Rattle.infer_tuples.proofs.Elements.{known_fine}
 use Rattle.infer_tuples.proofs.tuple.infer_tuple.Goals as goal
 

@@ -1,12 +1,8 @@
 use Rattle.std.proofs.Common.{◌≡◌, ◌+◌, suc, sym, subst, arith}
 use Rattle.hir_types.specs.declared.head.Hole.TheVariants as hole_of
-use Rattle.goal_answers.specs.Goals.{projects}
-use Rattle.goal_facts.proofs.Systems.{answer_is}
-use Rattle.goal_terms.specs.Terms.{term_of, term_of_hole, HasHeads}
-use Rattle.goal_terms.specs.Bindings.{log_of}
-use Rattle.goal_search.specs.Sources.{system}
-use Rattle.infer_unify.specs.Opening.{alias_of}
-use Rattle.infer_unify.specs.Unifying.{goal_of}
+use Rattle.infer_unify.specs.Words.{projects, term_of, term_of_hole, HasHeads, log_of, system}
+use Rattle.infer_unify.proofs.Words.{answer_is}
+use Rattle.infer_unify.specs.Own.{alias_of, goal_of}
 use Rattle.infer_unify.proofs.Steps.{goal_heads, goal_is}
 use Rattle.infer_unify.proofs.known.answer.Goals as goal
 

@@ -1,13 +1,7 @@
 use Rattle.std.proofs.Common.{sym, subst, option_map}
 use Rattle.hir_types.specs.declared.head.Hole.TheVariants as hole_of
-use Rattle.hir_types.specs.Terms.{hole}
-use Rattle.goal_answers.specs.Answers.{answers}
-use Rattle.goal_answers.specs.Steps.{ReadingIs}
-use Rattle.goal_terms.specs.Terms.{term_of, term_of_hole, HasHeads}
-use Rattle.goal_terms.specs.Bindings.{log_of}
-use Rattle.goal_search.specs.Sources.{system}
-use Rattle.infer_unify.specs.Opening.{alias_of}
-use Rattle.infer_unify.specs.Unifying.{known_alias}
+use Rattle.infer_unify.specs.Words.{hole, answers, ReadingIs, term_of, term_of_hole, HasHeads, log_of, system}
+use Rattle.infer_unify.specs.Own.{alias_of, known_alias}
 use Rattle.infer_unify.proofs.Steps.{known_heads, read_heads}
 use Rattle.infer_unify.proofs.known.follow.Goals as goal
 

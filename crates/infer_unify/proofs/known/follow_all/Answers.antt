@@ -1,12 +1,7 @@
 use Rattle.std.proofs.Common.{◌≡◌, ◌≤◌, Bool, refl, ◌∙◌, subst, length, slice_get, Some, arith}
-use Rattle.goal_answers.specs.Answers.{answers}
-use Rattle.goal_facts.proofs.Systems.{each_get}
-use Rattle.goal_terms.specs.Terms.{IsHead, HasHeads}
-use Rattle.goal_terms.specs.Bindings.{log_of}
-use Rattle.goal_search.specs.declared.sources.Sources.{Sources}
-use Rattle.goal_search.specs.Sources.{system}
-use Rattle.infer_unify.specs.Opening.{alias_of, aliases_of}
-use Rattle.infer_unify.specs.Following.{IsFollowed}
+use Rattle.infer_unify.specs.Words.{answers, IsHead, HasHeads, log_of, Sources, system}
+use Rattle.infer_unify.proofs.Words.{each_get}
+use Rattle.infer_unify.specs.Own.{alias_of, aliases_of, IsFollowed}
 use Rattle.infer_unify.proofs.Steps.{at_index, followed_then, followed_none, round_more, rounds_more}
 use Rattle.infer_unify.proofs.known.follow_all.Goals as goal
 

@@ -1,11 +1,6 @@
 use Rattle.std.proofs.Common.{◌≡◌, true, take}
-use Rattle.infer_table.specs.Solutions.{Log}
-use Rattle.goal_answers.specs.Answers.{answers}
-use Rattle.goal_terms.specs.Bindings.{log_of}
-use Rattle.goal_terms.specs.Unifying.{IsLog}
-use Rattle.goal_search.specs.Sources.{system}
-use Rattle.infer_unify.specs.Opening.{aliases_of}
-use Rattle.infer_unify.specs.Following.{AreFollowed, IsRound, AreRounds}
+use Rattle.infer_unify.specs.Words.{Log, answers, log_of, IsLog, system}
+use Rattle.infer_unify.specs.Own.{aliases_of, AreFollowed, IsRound, AreRounds}
 use Rattle.infer_unify.proofs.known.follow_all.Given as goal
 
 -- some were followed, one after another, in so many rounds

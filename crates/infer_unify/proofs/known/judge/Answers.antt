@@ -1,14 +1,7 @@
 use Rattle.std.proofs.Common.{◌++◌, [], ◌∷◌, ◌∙◌, sym, subst, take}
-use Rattle.goal_answers.specs.Answers.{answers}
-use Rattle.goal_facts.specs.Goals.{IsAnswer}
-use Rattle.goal_facts.proofs.Systems.{each_get}
-use Rattle.goal_terms.specs.Terms.{IsHead, HasHeads}
-use Rattle.goal_terms.specs.Bindings.{log_of}
-use Rattle.goal_search.specs.declared.sources.Sources.{Sources}
-use Rattle.goal_search.specs.Sources.{system}
-use Rattle.infer_unify.specs.declared.unification.Unification.{Unification}
-use Rattle.infer_unify.specs.Opening.{alias_of, aliases_of}
-use Rattle.infer_unify.specs.Unifying.{goal_of}
+use Rattle.infer_unify.specs.Words.{answers, IsAnswer, IsHead, HasHeads, log_of, Sources, system}
+use Rattle.infer_unify.proofs.Words.{each_get}
+use Rattle.infer_unify.specs.Own.{Unification, alias_of, aliases_of, goal_of}
 use Rattle.infer_unify.proofs.Steps.{at_index, some_at, AreJudgedSoFar, judged_yes, judged_undecided, judged_more}
 use Rattle.infer_unify.proofs.known.judge.Goals.{in-Yes, in-Undecided}
 use Rattle.infer_unify.proofs.known.judge.Goals as goal

@@ -1,8 +1,6 @@
 use Rattle.std.proofs.Common.{◌≡◌, take}
-use Rattle.goal_answers.specs.Answers.{answers}
-use Rattle.goal_terms.specs.Bindings.{log_of}
-use Rattle.goal_search.specs.Sources.{system}
-use Rattle.infer_unify.specs.Opening.{aliases_of}
+use Rattle.infer_unify.specs.Words.{answers, log_of, system}
+use Rattle.infer_unify.specs.Own.{aliases_of}
 use Rattle.infer_unify.proofs.Steps.{AreJudgedSoFar}
 use Rattle.infer_unify.proofs.known.judge.Given as goal
 

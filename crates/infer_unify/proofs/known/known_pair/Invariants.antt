@@ -1,8 +1,5 @@
 use Rattle.std.proofs.Common.{◌≡◌, drop}
-use Rattle.hir_types.specs.Terms.{pair}
-use Rattle.infer_table.specs.Solutions.{resolved}
-use Rattle.goal_terms.specs.Terms.{term_of}
-use Rattle.goal_terms.specs.Bindings.{log_of}
+use Rattle.infer_unify.specs.Words.{pair, resolved, term_of, log_of}
 use Rattle.infer_unify.proofs.known.known_pair.Given as goal
 
 -- the bindings that are left, put into what is made

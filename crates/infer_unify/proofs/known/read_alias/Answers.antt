@@ -1,14 +1,7 @@
 use Rattle.std.proofs.Common.{◌≡◌, ap, ◌∙◌, sym, subst, IfOk, option_map}
 use Rattle.hir_types.specs.declared.head.Head.TheVariants as head
-use Rattle.hir_types.specs.Terms.{Term, hole, pair}
-use Rattle.infer_table.specs.Solutions.{resolved}
-use Rattle.goal_answers.specs.Answers.{answers}
-use Rattle.goal_answers.specs.Steps.{ReadingIs}
-use Rattle.goal_terms.specs.Terms.{term_of, term_of_leaf, HasHeads}
-use Rattle.goal_terms.specs.Bindings.{log_of}
-use Rattle.goal_search.specs.Sources.{system}
-use Rattle.infer_unify.specs.Opening.{alias_of}
-use Rattle.infer_unify.specs.Unifying.{known_alias}
+use Rattle.infer_unify.specs.Words.{Term, hole, pair, resolved, answers, ReadingIs, term_of, term_of_leaf, HasHeads, log_of, system}
+use Rattle.infer_unify.specs.Own.{alias_of, known_alias}
 use Rattle.infer_unify.proofs.Steps.{known_heads}
 use Rattle.infer_unify.proofs.known.read_alias.Goals as goal
 

@@ -1,6 +1,6 @@
 use Rattle.std.proofs.Common.{◌≡◌, ap, ◌∙◌, max, arith}
-use Rattle.goal_terms.specs.Terms.{term_of}
-use Rattle.infer_unify.specs.Opening.{aliases_of, above_both}
+use Rattle.infer_unify.specs.Words.{term_of}
+use Rattle.infer_unify.specs.Own.{aliases_of, above_both}
 use Rattle.infer_unify.proofs.Becoming.{both_opened}
 use Rattle.infer_unify.proofs.opening.open_both.Goals as goal
 

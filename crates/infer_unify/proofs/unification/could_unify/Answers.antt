@@ -1,5 +1,5 @@
 use Rattle.std.proofs.Common.{refl}
-use Rattle.infer_unify.specs.Unifying.{could}
+use Rattle.infer_unify.specs.Own.{could}
 use Rattle.infer_unify.proofs.Exact.{exact_test}
 use Rattle.infer_unify.proofs.OneOutcome.{only_test}
 use Rattle.infer_unify.proofs.unification.could_unify.Goals as goal

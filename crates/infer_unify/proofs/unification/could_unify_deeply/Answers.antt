@@ -1,5 +1,5 @@
 use Rattle.std.proofs.Common.{refl}
-use Rattle.infer_unify.specs.Unifying.{deeply}
+use Rattle.infer_unify.specs.Own.{deeply}
 use Rattle.infer_unify.proofs.Exact.{exact_test}
 use Rattle.infer_unify.proofs.OneOutcome.{only_test, only_where_could}
 use Rattle.infer_unify.proofs.unification.could_unify_deeply.Goals as goal

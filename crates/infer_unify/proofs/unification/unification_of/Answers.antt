@@ -1,11 +1,7 @@
 use Rattle.std.proofs.lemmas.Result.{IfOk-weaker}
-use Rattle.goal_answers.specs.Answers.{answers}
-use Rattle.goal_facts.proofs.Systems.{depth_is_small}
-use Rattle.goal_terms.specs.Terms.{term_of}
-use Rattle.goal_search.specs.Sources.{system}
-use Rattle.infer_unify.specs.Exactly.{UnifyExactly}
-use Rattle.infer_unify.specs.Opening.{aliases_of}
-use Rattle.infer_unify.specs.Unifying.{Becomes, IsOnlyOutcome}
+use Rattle.infer_unify.specs.Words.{answers, term_of, system}
+use Rattle.infer_unify.proofs.Words.{depth_is_small}
+use Rattle.infer_unify.specs.Own.{UnifyExactly, aliases_of, Becomes, IsOnlyOutcome}
 use Rattle.infer_unify.proofs.Becoming.{types_heads, types_read}
 use Rattle.infer_unify.proofs.Exact.{exactly_by}
 use Rattle.infer_unify.proofs.OneOutcome.{only_by}

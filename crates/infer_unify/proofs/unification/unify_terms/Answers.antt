@@ -1,15 +1,8 @@
 use Rattle.std.proofs.Common.{◌≡◌, ℕ, Bool, List, [], subst, sym, ap, ◌∙◌, length, IfOk}
 use Rattle.std.proofs.lemmas.List.{length-map}
 use Rattle.std.proofs.lemmas.Result.{IfOk-weaker}
-use Rattle.infer_table.specs.Solutions.{Log, UnifiedIf}
-use Rattle.goal_answers.specs.Answers.{answers}
-use Rattle.goal_terms.specs.Terms.{term_of}
-use Rattle.goal_terms.specs.Bindings.{log_of}
-use Rattle.goal_search.specs.declared.sources.Sources.{Sources}
-use Rattle.goal_search.specs.Sources.{system}
-use Rattle.infer_unify.specs.Opening.{Alias, alias_of, aliases_of}
-use Rattle.infer_unify.specs.Unifying.{AreJudged, Becomes}
-use Rattle.infer_unify.specs.Following.{AreFollowed, AreRounds}
+use Rattle.infer_unify.specs.Words.{Log, UnifiedIf, answers, term_of, log_of, Sources, system}
+use Rattle.infer_unify.specs.Own.{Alias, alias_of, aliases_of, AreJudged, Becomes, AreFollowed, AreRounds}
 use Rattle.infer_unify.proofs.Becoming.{becomes_none, becomes_no, becomes_judged}
 use Rattle.infer_unify.proofs.unification.unify_terms.Goals as goal
 

@@ -1,5 +1,5 @@
 use Rattle.std.proofs.Common.{◌≡◌, sym, ap, ◌∙◌, subst, slice_get, Some}
-use Rattle.goal_search.specs.Sources.{rule_of, rules_of, system}
+use Rattle.goal_facts.specs.Words.{rule_of, rules_of, system}
 use Rattle.goal_facts.proofs.Typed.{clause_goal, entry_is}
 use Rattle.goal_facts.proofs.item_sources.ItemSources.clause.Goals as goal
 

@@ -1,6 +1,6 @@
 use Rattle.std.proofs.Common.{◌≡◌, ◌+◌, suc, subst, arith, IfOk}
-use Rattle.goal_search.specs.Sources.{asked_of, system}
-use Rattle.goal_facts.specs.Goals.{asked_goal, IsAnswer}
+use Rattle.goal_facts.specs.Words.{asked_of, system}
+use Rattle.goal_facts.specs.Own.{asked_goal, IsAnswer}
 use Rattle.goal_facts.proofs.Systems.{depth_is_small, answer_is}
 use Rattle.goal_facts.proofs.item_sources.ItemSources.evaluate.Goals as goal
 

@@ -1,7 +1,6 @@
 use Rattle.std.proofs.Common.{◌≡◌, ◌↔◌, IsTrue, subst}
-use Rattle.goal_answers.specs.Goals.{Rule, SomeOf}
-use Rattle.goal_search.specs.Sources.{asked_of, rules_of, system}
-use Rattle.goal_facts.specs.Goals.{asked_goal}
+use Rattle.goal_facts.specs.Words.{Rule, SomeOf, asked_of, rules_of, system}
+use Rattle.goal_facts.specs.Own.{asked_goal}
 use Rattle.goal_facts.proofs.item_sources.ItemSources.is_clause.Goals as goal
 
 pub returns : goal.returns

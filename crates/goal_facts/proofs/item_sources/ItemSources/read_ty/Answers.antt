@@ -1,13 +1,6 @@
 use Rattle.std.proofs.Common.{◌≡◌, ◌∙◌, sym, subst, true≢false, option_map}
-use Rattle.hir_types.specs.Terms.{hole, term}
-use Rattle.goal_answers.specs.Reading.{ReadsAs}
-use Rattle.goal_answers.specs.Answers.{answers}
-use Rattle.goal_answers.specs.Steps.{ReadingIs}
-use Rattle.hir_raw.specs.declared.raw.RawFacts.{RawFacts}
-use Rattle.goal_terms.specs.Terms.{term_of}
-use Rattle.goal_search.specs.declared.sources.Sources.{Sources}
-use Rattle.goal_search.specs.Sources.{system}
-use Rattle.goal_facts.specs.Reading.{IsTypeRead}
+use Rattle.goal_facts.specs.Words.{hole, term, ReadsAs, answers, ReadingIs, RawFacts, term_of, Sources, system}
+use Rattle.goal_facts.specs.Own.{IsTypeRead}
 use Rattle.goal_facts.proofs.TypesRead.{reads_back, reads_none}
 use Rattle.goal_facts.proofs.item_sources.ItemSources.read_ty.Goals.{then-same, else-same}
 use Rattle.goal_facts.proofs.item_sources.ItemSources.read_ty.Goals as goal

@@ -1,10 +1,8 @@
 use Rattle.std.proofs.Common.{◌≡◌, sym, subst}
 use Rattle.std.specs.Prelude.{slice_get, Some}
 use Rattle.std.proofs.lemmas.Result.{IfOk-weaker}
-use Rattle.goal_answers.specs.Goals.{Rule}
-use Rattle.goal_answers.specs.Selecting.{IsTraitKind}
-use Rattle.goal_search.specs.Sources.{system}
-use Rattle.goal_facts.specs.ImplGoals.{ImplHasRule, ComesFrom, AreGoalsOf}
+use Rattle.goal_facts.specs.Words.{Rule, IsTraitKind, system}
+use Rattle.goal_facts.specs.Own.{ImplHasRule, ComesFrom, AreGoalsOf}
 use Rattle.goal_facts.proofs.Following.{entry_at}
 use Rattle.goal_facts.proofs.RulePlaces.{not_bound}
 use Rattle.goal_facts.proofs.item_sources.ItemSources.rule_goals.Goals as goal

@@ -1,9 +1,8 @@
 use Rattle.std.proofs.Common.{◌≡◌}
 use Rattle.std.specs.Prelude.{slice_get, Some}
 use Rattle.std.proofs.lemmas.Result.{IfOk-weaker}
-use Rattle.goal_answers.specs.Goals.{Rule}
-use Rattle.goal_search.specs.Sources.{system}
-use Rattle.goal_facts.specs.ImplGoals.{ComesFrom, IsPlaceOf}
+use Rattle.goal_facts.specs.Words.{Rule, system}
+use Rattle.goal_facts.specs.Own.{ComesFrom, IsPlaceOf}
 use Rattle.goal_facts.proofs.RulePlaces.{rule_from}
 use Rattle.goal_facts.proofs.item_sources.ItemSources.rule_impl.Goals as goal
 

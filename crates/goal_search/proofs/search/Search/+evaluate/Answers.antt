@@ -1,24 +1,10 @@
 use Rattle.std.proofs.Common.{◌≡◌, inr, ℕ, suc, ◌-◌, true, true≢false, refl, sym, ap, ◌∙◌, subst, arith, Some, None}
 use Rattle.std.specs.Option.{option_map}
 use Rattle.std.proofs.lemmas.Result.{IfOk-weaker}
-use Rattle.hir_types.specs.Terms.{Term, hole}
-use Rattle.goal_answers.specs.Goals.{asked_at, self_type, only, is_among, IsKnown}
-use Rattle.goal_answers.specs.Rows.{tail_of, SizedYes, SizedNo}
-use Rattle.goal_answers.specs.Answers.{HasSource, HasNoSource, YesAt, NoAt, answers}
-use Rattle.goal_answers.specs.Steps.{known_below, ReadingIs, AliasIs}
-use Rattle.goal_answers.proofs.Upto.{each_at, some_at, each_in_map, each_of_map, some_of_map, some_in_map}
-use Rattle.goal_answers.proofs.Levels.{level}
-use Rattle.goal_terms.specs.Terms.{term_of}
-use Rattle.goal_terms.specs.Bindings.{log_of, fill_of}
-use Rattle.goal_search.specs.Sources.{kind_of, asked_of, rule_of, system}
-use Rattle.goal_search.specs.Holes.{holes_fill}
-use Rattle.goal_search.specs.Parts.{tail_as, CopiesAre}
-use Rattle.goal_search.specs.declared.answer.Answer.{Answer}
+use Rattle.goal_search.specs.Words.{Term, hole, asked_at, self_type, only, is_among, IsKnown, tail_of, SizedYes, SizedNo, HasSource, HasNoSource, YesAt, NoAt, answers, known_below, ReadingIs, AliasIs, term_of, log_of, fill_of}
+use Rattle.goal_search.proofs.Words.{each_at, some_at, each_in_map, each_of_map, some_of_map, some_in_map, level}
+use Rattle.goal_search.specs.Own.{kind_of, asked_of, rule_of, system, holes_fill, tail_as, CopiesAre, Answer, PredIsDone, RuleHasHeads, Decides, side_part, Holds, HoldsNot, Sources, IsAnswerAt, IsKeptRight, AreKept, IsSaid, IsDenied, WalkIs}
 use Rattle.goal_search.specs.declared.answer.Answer.TheVariants as answer
-use Rattle.goal_search.specs.Searching.{PredIsDone, RuleHasHeads, Decides, side_part, Holds, HoldsNot}
-use Rattle.goal_search.specs.declared.sources.Sources.{Sources}
-use Rattle.goal_search.specs.Keeping.{IsAnswerAt, IsKeptRight, AreKept}
-use Rattle.goal_search.specs.Sized.{IsSaid, IsDenied, WalkIs}
 use Rattle.goal_search.proofs.SoFar.{each_append, all_yes, all_open, all_end, any_no, any_open, any_end, decides_same}
 use Rattle.goal_search.proofs.Heads.{type_heads, may_done, reading_done, heads_in}
 use Rattle.goal_search.proofs.Refuting.{not_refuted_now, side_heads, common_done, fills_done, preds_done, none_holds, open_holds_not, other_holds_not, preds_hold_not, holds_here, no_refutes, same_refutes_if, open_refutes_not}

@@ -1,12 +1,7 @@
 use Rattle.std.proofs.Common.{◌≡◌, ℕ, ◌+◌, ◌*◌}
 use Rattle.std.specs.Option.{option_map}
-use Rattle.goal_answers.specs.Goals.{asked_at}
-use Rattle.goal_answers.specs.Answers.{answers}
-use Rattle.goal_answers.specs.Steps.{known_below}
-use Rattle.goal_terms.specs.Terms.{term_of}
-use Rattle.goal_search.specs.Sources.{kind_of, asked_of, rule_of, system}
-use Rattle.goal_search.specs.Holes.{holes_fill}
-use Rattle.goal_search.specs.Searching.{Holds, HoldsNot}
+use Rattle.goal_search.specs.Words.{asked_at, answers, known_below, term_of}
+use Rattle.goal_search.specs.Own.{kind_of, asked_of, rule_of, system, holes_fill, Holds, HoldsNot}
 use Rattle.goal_search.proofs.SoFar.{AllSoFar, AnySoFar, GivenSoFar}
 use Rattle.goal_search.proofs.search.Search.+evaluate.Given as goal
 

@@ -1,11 +1,8 @@
 use Rattle.std.proofs.Common.{sym, ◌∙◌, true≢false}
 use Rattle.std.specs.Option.{option_map}
 use Rattle.std.proofs.lemmas.Result.{IfOk-weaker}
-use Rattle.goal_answers.specs.Answers.{answers}
-use Rattle.goal_answers.specs.Steps.{known_below}
-use Rattle.goal_answers.specs.Selecting.{SizeIsBy, IsChoice}
-use Rattle.goal_search.specs.Sources.{asked_of, system}
-use Rattle.goal_search.specs.Choosing.{choice_of, IsBy}
+use Rattle.goal_search.specs.Words.{answers, known_below, SizeIsBy, IsChoice}
+use Rattle.goal_search.specs.Own.{asked_of, system, choice_of, IsBy}
 use Rattle.goal_search.proofs.Choosing.{selectable_done, sized_choice, unanswered_choice, is_answered, not_answered}
 use Rattle.goal_search.proofs.search.Search.choose.Goals as goal
 

@@ -1,12 +1,8 @@
 use Rattle.std.proofs.Common.{sym, ◌∙◌, subst, true≢false}
-use Rattle.goal_answers.specs.Answers.{RuleIsRefuted, answers}
-use Rattle.goal_answers.specs.Steps.{known_below}
-use Rattle.goal_terms.specs.Terms.{term_of}
-use Rattle.goal_search.specs.declared.sources.Sources.{Sources}
+use Rattle.goal_search.specs.Words.{RuleIsRefuted, answers, known_below, term_of}
+use Rattle.goal_search.specs.Own.{Sources, kind_of, system, IsLeft, IsRow}
 use Rattle.goal_search.specs.declared.choose.Left.TheVariants as left
 use Rattle.goal_search.specs.declared.choose.Row.TheVariants as row
-use Rattle.goal_search.specs.Sources.{kind_of, system}
-use Rattle.goal_search.specs.Choosing.{IsLeft, IsRow}
 use Rattle.goal_search.proofs.Choosing.{may_shadow, unshadowed, rules_several, rule_copied, rule_found, nothing_left, row_not}
 use Rattle.goal_search.proofs.search.Search.choose_rule.Goals as goal
 

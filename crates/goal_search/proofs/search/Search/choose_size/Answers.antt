@@ -1,6 +1,6 @@
 use Rattle.std.proofs.Common.{sym, ◌∙◌, true≢false}
-use Rattle.goal_terms.specs.Terms.{term_of}
-use Rattle.goal_search.specs.Sources.{kind_of, system}
+use Rattle.goal_search.specs.Words.{term_of}
+use Rattle.goal_search.specs.Own.{kind_of, system}
 use Rattle.goal_search.proofs.Choosing.{size_shadowed, size_walked}
 use Rattle.goal_search.proofs.search.Search.choose_size.Goals as goal
 

@@ -1,5 +1,5 @@
-use Rattle.goal_terms.specs.Terms.{term_of}
-use Rattle.goal_search.specs.Sources.{kind_of, system}
+use Rattle.goal_search.specs.Words.{term_of}
+use Rattle.goal_search.specs.Own.{kind_of, system}
 use Rattle.goal_search.proofs.Choosing.{clause_found, clauses_several}
 use Rattle.goal_search.proofs.search.Search.choose_source.Goals as goal
 

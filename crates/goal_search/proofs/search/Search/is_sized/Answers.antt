@@ -1,10 +1,7 @@
 use Rattle.std.proofs.Common.{true≢false, refl, sym, ◌∙◌, Some, None}
-use Rattle.hir_types.specs.Terms.{hole}
-use Rattle.goal_answers.specs.Goals.{implements}
-use Rattle.goal_answers.proofs.Upto.{each_all}
-use Rattle.goal_terms.specs.Terms.{term_of}
-use Rattle.goal_search.specs.Sources.{system}
-use Rattle.goal_search.specs.Sized.{IsSizedBy}
+use Rattle.goal_search.specs.Words.{hole, implements, term_of}
+use Rattle.goal_search.proofs.Words.{each_all}
+use Rattle.goal_search.specs.Own.{system, IsSizedBy}
 use Rattle.goal_search.proofs.Heads.{reading_done, heads_in}
 use Rattle.goal_search.proofs.Walking.{stay_done}
 use Rattle.goal_search.proofs.Sizes.{walk_not, by_none_so_far, sized_by_none, sized_by_one, sized_by_neither}

@@ -1,8 +1,6 @@
 use Rattle.std.proofs.Common.{◌≡◌, take, Some}
-use Rattle.goal_answers.specs.Goals.{implements, Each}
-use Rattle.goal_terms.specs.Terms.{term_of}
-use Rattle.goal_search.specs.Sources.{system}
-use Rattle.goal_search.specs.Sized.{IsSizedBy}
+use Rattle.goal_search.specs.Words.{implements, Each, term_of}
+use Rattle.goal_search.specs.Own.{system, IsSizedBy}
 use Rattle.goal_search.proofs.search.Search.is_sized.Given as goal
 
 -- by none of those before

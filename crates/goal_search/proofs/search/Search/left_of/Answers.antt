@@ -1,13 +1,9 @@
 use Rattle.std.proofs.Common.{◌≡◌, ◌⊎◌, inl, inr, ℕ, sym, ◌∙◌, arith, true≢false}
 use Rattle.std.proofs.lemmas.List.{length-map}
-use Rattle.goal_answers.specs.Answers.{RuleIsRefuted, answers}
-use Rattle.goal_answers.specs.Steps.{known_below}
-use Rattle.goal_answers.proofs.Upto.{each_at, each_in_map}
-use Rattle.goal_terms.specs.Terms.{term_of}
-use Rattle.goal_search.specs.Sources.{kind_of, rule_of, rules_of, system}
-use Rattle.goal_search.specs.declared.choose.Left.{Left}
+use Rattle.goal_search.specs.Words.{RuleIsRefuted, answers, known_below, term_of}
+use Rattle.goal_search.proofs.Words.{each_at, each_in_map}
+use Rattle.goal_search.specs.Own.{kind_of, rule_of, rules_of, system, Left, RuleHasHeads}
 use Rattle.goal_search.specs.declared.choose.Left.TheVariants as left
-use Rattle.goal_search.specs.Searching.{RuleHasHeads}
 use Rattle.goal_search.proofs.Only.{mapped_at, left_end, left_out, left_this, left_two}
 use Rattle.goal_search.proofs.search.Search.left_of.Goals as goal
 use Rattle.goal_search.proofs.search.Search.left_of.Goals.{then-not-branch+in-Nothing, else-not-branch}

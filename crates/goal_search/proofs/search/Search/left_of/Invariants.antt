@@ -1,8 +1,6 @@
 use Rattle.std.proofs.Common.{◌≡◌}
-use Rattle.goal_answers.specs.Answers.{RuleIsRefuted, answers}
-use Rattle.goal_answers.specs.Steps.{known_below}
-use Rattle.goal_terms.specs.Terms.{term_of}
-use Rattle.goal_search.specs.Sources.{kind_of, rules_of, system}
+use Rattle.goal_search.specs.Words.{RuleIsRefuted, answers, known_below, term_of}
+use Rattle.goal_search.specs.Own.{kind_of, rules_of, system}
 use Rattle.goal_search.proofs.Only.{LeftSoFar}
 use Rattle.goal_search.proofs.search.Search.left_of.Given as goal
 

@@ -1,12 +1,7 @@
 use Rattle.std.proofs.Common.{◌≡◌, ◌<◌, sym, ◌∙◌, subst, arith, true≢false, List, length, get_or, Some, slice_get}
-use Rattle.goal_answers.specs.Answers.{answers}
-use Rattle.goal_answers.specs.Steps.{known_below}
-use Rattle.goal_answers.specs.Selecting.{StatesGoal}
-use Rattle.goal_answers.proofs.Upto.{each_at, each_all, each_more, each_in_map, none_of, some_in_map}
-use Rattle.goal_terms.specs.Terms.{term_of}
-use Rattle.goal_search.specs.Sources.{kind_of, rule_of, rules_of, system}
-use Rattle.goal_search.specs.declared.sources.Rule.{Rule}
-use Rattle.goal_search.specs.Searching.{RuleHasHeads}
+use Rattle.goal_search.specs.Words.{answers, known_below, StatesGoal, term_of}
+use Rattle.goal_search.proofs.Words.{each_at, each_all, each_more, each_in_map, none_of, some_in_map}
+use Rattle.goal_search.specs.Own.{kind_of, rule_of, rules_of, system, Rule, RuleHasHeads}
 use Rattle.goal_search.proofs.Only.{mapped_at}
 use Rattle.goal_search.proofs.search.Search.proving_clause.Goals as goal
 

@@ -1,10 +1,6 @@
 use Rattle.std.proofs.Common.{◌≡◌, take}
-use Rattle.goal_answers.specs.Goals.{Each}
-use Rattle.goal_answers.specs.Answers.{answers}
-use Rattle.goal_answers.specs.Steps.{known_below}
-use Rattle.goal_answers.specs.Selecting.{StatesGoal}
-use Rattle.goal_terms.specs.Terms.{term_of}
-use Rattle.goal_search.specs.Sources.{kind_of, rule_of, system}
+use Rattle.goal_search.specs.Words.{Each, answers, known_below, StatesGoal, term_of}
+use Rattle.goal_search.specs.Own.{kind_of, rule_of, system}
 use Rattle.goal_search.proofs.search.Search.proving_clause.Given as goal
 
 -- by none of those before

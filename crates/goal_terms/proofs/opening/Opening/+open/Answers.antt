@@ -1,9 +1,6 @@
 use Rattle.std.proofs.Common.{refl, sym, ap, ◌∙◌}
-use Rattle.hir_types.specs.Terms.{pair}
-use Rattle.goal_answers.specs.Reading.{role}
-use Rattle.goal_terms.specs.Terms.{term_of, role_of}
-use Rattle.goal_terms.specs.Bindings.{log_of}
-use Rattle.goal_terms.specs.Opening.{Opened}
+use Rattle.goal_terms.specs.Words.{pair, role}
+use Rattle.goal_terms.specs.Own.{term_of, role_of, log_of, Opened}
 use Rattle.goal_terms.proofs.Owned.{pair_of, same_made}
 use Rattle.goal_terms.proofs.Openings.{after_alias, after_parts}
 use Rattle.goal_terms.proofs.opening.Opening.+open.Goals as goal

@@ -1,9 +1,6 @@
 use Rattle.std.proofs.Common.{sym, ap, ◌∙◌}
-use Rattle.hir_types.specs.Terms.{hole}
-use Rattle.infer_table.specs.Solutions.{found}
-use Rattle.goal_terms.specs.Terms.{term_of}
-use Rattle.goal_terms.specs.Bindings.{log_of}
-use Rattle.goal_terms.specs.Opening.{Opened}
+use Rattle.goal_terms.specs.Words.{hole, found}
+use Rattle.goal_terms.specs.Own.{term_of, log_of, Opened}
 use Rattle.goal_terms.proofs.Owned.{none_of, some_of, same_made}
 use Rattle.goal_terms.proofs.Openings.{opened_known, after_new}
 use Rattle.goal_terms.proofs.opening.Opening.open_hole.Goals as goal

@@ -1,11 +1,8 @@
 use Rattle.std.proofs.Common.{◌≡◌, ◌<◌, ℕ, List, get_or, length, refl, sym, ap, ◌∙◌, inl, subst, arith}
 use Rattle.std.specs.Prelude.{Some, slice_get}
 use Rattle.std.proofs.lemmas.Option.{same_Some, slice_get_read, slice_get_within}
-use Rattle.goal_tree.specs.declared.obligation.Obligation.{Obligation}
-use Rattle.goal_tree.specs.declared.obligation.Standing.{Standing}
+use Rattle.goal_tree.specs.Own.{Obligation, Standing, GoalTree, IsTreeBut, IsWaitingAt, AreProvedAs}
 use Rattle.goal_tree.specs.declared.obligation.Standing.TheVariants as standing
-use Rattle.goal_tree.specs.declared.tree.GoalTree.{GoalTree}
-use Rattle.goal_tree.specs.Trees.{IsTreeBut, IsWaitingAt, AreProvedAs}
 use Rattle.goal_tree.proofs.Proving.{proved_none, tree_waits, proved_next}
 use Rattle.goal_tree.proofs.tree.GoalTree.advance.Goals as goal
 

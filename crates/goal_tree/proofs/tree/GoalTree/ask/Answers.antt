@@ -1,7 +1,7 @@
 use Rattle.std.proofs.Common.{◌≡◌, ◌∷◌, [], length, map, sym, ap, subst, ◌∙◌, append_assoc, append-nil, arith}
 use Rattle.std.proofs.lemmas.List.{map-append, nil_from_length}
 use Rattle.std.specs.Vec.Iter.{into_iter_items}
-use Rattle.goal_tree.specs.Trees.{asked_by, IsAsked}
+use Rattle.goal_tree.specs.Own.{asked_by, IsAsked}
 use Rattle.goal_tree.proofs.Asking.{asked_more}
 use Rattle.goal_tree.proofs.tree.GoalTree.ask.Goals as goal
 

@@ -1,6 +1,6 @@
 use Rattle.std.proofs.Common.{◌≡◌, ◌++◌, map, length}
 use Rattle.std.specs.Vec.Iter.{into_iter_items, into_iter_len}
-use Rattle.goal_tree.specs.Trees.{asked_by, IsAsked}
+use Rattle.goal_tree.specs.Own.{asked_by, IsAsked}
 use Rattle.goal_tree.proofs.tree.GoalTree.ask.Given as goal
 
 abbrev pub invariant-loop-goal : goal.invariant-loop-goal

@@ -1,5 +1,5 @@
 use Rattle.std.proofs.Common.{subst}
-use Rattle.goal_tree.specs.Trees.{IsProvedUpTo}
+use Rattle.goal_tree.specs.Own.{IsProvedUpTo}
 use Rattle.goal_tree.proofs.Proving.{proved_then}
 use Rattle.goal_tree.proofs.tree.GoalTree.finish.Goals as goal
 

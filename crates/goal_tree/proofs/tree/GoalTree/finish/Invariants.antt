@@ -1,5 +1,5 @@
 use Rattle.std.proofs.Common.{◌≡◌}
-use Rattle.goal_tree.specs.Trees.{IsTreeBut, IsWaitingAt, IsMoreProved}
+use Rattle.goal_tree.specs.Own.{IsTreeBut, IsWaitingAt, IsMoreProved}
 use Rattle.goal_tree.proofs.tree.GoalTree.finish.Given as goal
 
 abbrev pub invariant-loop-parent : goal.invariant-loop-parent

@@ -1,7 +1,7 @@
 use Rattle.std.proofs.Common.{◌≡◌, ◌∷◌, [], ◌++◌, length, get_or, refl, sym, ap, ◌∙◌, arith}
 use Rattle.std.specs.Prelude.{Some, slice_get}
 use Rattle.std.proofs.lemmas.Option.{slice_get_read, slice_get_within}
-use Rattle.goal_tree.specs.Trees.{pending_of}
+use Rattle.goal_tree.specs.Own.{pending_of}
 use Rattle.goal_tree.proofs.Pending.{pending_more}
 use Rattle.goal_tree.proofs.tree.GoalTree.pending.Goals as goal
 

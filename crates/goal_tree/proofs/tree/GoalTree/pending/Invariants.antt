@@ -1,5 +1,5 @@
 use Rattle.std.proofs.Common.{◌≡◌, take}
-use Rattle.goal_tree.specs.Trees.{pending_of}
+use Rattle.goal_tree.specs.Own.{pending_of}
 use Rattle.goal_tree.proofs.tree.GoalTree.pending.Given as goal
 
 abbrev pub invariant-loop-at : goal.invariant-loop-at

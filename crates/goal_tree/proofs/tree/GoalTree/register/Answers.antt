@@ -1,6 +1,6 @@
 use Rattle.std.proofs.Common.{refl}
 use Rattle.std.proofs.lemmas.Result.{on_ok_weaker}
-use Rattle.goal_tree.specs.Trees.{registered}
+use Rattle.goal_tree.specs.Own.{registered}
 use Rattle.goal_tree.proofs.Growing.{registered_tree}
 use Rattle.goal_tree.proofs.tree.GoalTree.register.Goals as goal
 

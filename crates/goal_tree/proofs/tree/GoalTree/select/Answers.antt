@@ -1,13 +1,10 @@
 use Rattle.std.proofs.Common.{◌≡◌, ℕ, ◌∙◌, List, length, map, refl, sym, ap, subst, arith, rules}
 use Rattle.std.specs.Prelude.{Some, slice_get, slice_set}
 use Rattle.std.proofs.lemmas.Option.{slice_get_within}
-use Rattle.hir_types.specs.declared.ids.ExprOrPatId.{ExprOrPatId}
-use Rattle.hir_types.specs.declared.goal.Goal.{Goal}
-use Rattle.goal_facts.specs.declared.proof.ProofSource.{ProofSource}
+use Rattle.goal_tree.specs.Words.{ExprOrPatId, Goal, ProofSource}
 use Rattle.goal_tree.specs.declared.obligation.Standing.TheVariants as standing
-use Rattle.goal_tree.specs.declared.tree.GoalTree.{GoalTree}
-use Rattle.goal_tree.specs.Trees.{IsTree, IsOpenAt, asked_by, IsAsked}
-use Rattle.goal_tree.proofs.Standings.{front_get}
+use Rattle.goal_tree.specs.Own.{GoalTree, IsTree, IsOpenAt, asked_by, IsAsked}
+use Rattle.goal_tree.proofs.Words.{get_left as front_get}
 use Rattle.goal_tree.proofs.Selecting.{Selects, selected_tree, selected_waits, selected_by}
 use Rattle.goal_tree.proofs.tree.GoalTree.select.Goals as goal
 

@@ -1,4 +1,4 @@
-use Rattle.hir_facts.specs.Counts.{AdtFitsBy}
+use Rattle.hir_counts.specs.Words.{AdtFitsBy}
 use Rattle.hir_counts.proofs.Fits.{fits_says}
 use Rattle.hir_counts.proofs.counts.AdtCountsTest.test.Goals as goal
 

@@ -1,5 +1,5 @@
 use Rattle.std.proofs.lemmas.Result.{IfOk-weaker}
-use Rattle.hir_facts.specs.Counts.{FnFitsBy}
+use Rattle.hir_counts.specs.Words.{FnFitsBy}
 use Rattle.hir_counts.proofs.Fits.{fits_says}
 use Rattle.hir_counts.proofs.counts.FnCountsTest.test.Goals as goal
 

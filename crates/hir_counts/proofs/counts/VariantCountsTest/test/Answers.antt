@@ -1,5 +1,5 @@
 use Rattle.std.proofs.lemmas.Result.{IfOk-weaker}
-use Rattle.hir_facts.specs.Counts.{VariantFitsBy}
+use Rattle.hir_counts.specs.Words.{VariantFitsBy}
 use Rattle.hir_counts.proofs.Fits.{fits_says}
 use Rattle.hir_counts.proofs.counts.VariantCountsTest.test.Goals as goal
 

@@ -1,4 +1,4 @@
-use Rattle.hir_facts.specs.Counts.{AliasFitsBy}
+use Rattle.hir_counts.specs.Words.{AliasFitsBy}
 use Rattle.hir_counts.proofs.Fits.{fits_says}
 use Rattle.hir_counts.proofs.goal_counts.AliasCountsTest.test.Goals as goal
 

@@ -1,4 +1,4 @@
-use Rattle.hir_facts.specs.Counts.{ImplFitsBy}
+use Rattle.hir_counts.specs.Words.{ImplFitsBy}
 use Rattle.hir_counts.proofs.Fits.{fits_says}
 use Rattle.hir_counts.proofs.goal_counts.ImplCountsTest.test.Goals as goal
 

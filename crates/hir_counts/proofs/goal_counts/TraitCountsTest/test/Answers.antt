@@ -1,4 +1,4 @@
-use Rattle.hir_facts.specs.Counts.{TraitFitsBy}
+use Rattle.hir_counts.specs.Words.{TraitFitsBy}
 use Rattle.hir_counts.proofs.Fits.{fits_says}
 use Rattle.hir_counts.proofs.goal_counts.TraitCountsTest.test.Goals as goal
 

@@ -1,7 +1,7 @@
 use Rattle.std.proofs.Common.{◌≡◌, ◌∙◌, ◌+◌, ◌<◌, ◌^◌, ap, sym, subst, length, get_or, ℕ, List, Bool, true, false, arith}
 use Rattle.std.specs.Prelude.{◌↔◌, IsTrue}
-use Rattle.hir_raw.specs.declared.raw.RawFacts.{RawFacts}
-use Rattle.hir_facts.specs.Plain.{IsPlainAdt}
+use Rattle.hir_facts.specs.Words.{RawFacts}
+use Rattle.hir_facts.specs.Own.{IsPlainAdt}
 use Rattle.hir_facts.proofs.InRange.{few_types}
 use Rattle.hir_facts.proofs.facts.Facts.is_plain_adt.Goals as goal
 

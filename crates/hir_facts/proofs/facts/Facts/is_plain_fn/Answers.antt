@@ -1,7 +1,7 @@
 use Rattle.std.proofs.Common.{◌≡◌, ◌∙◌, ap, sym, subst, get_or, List, Bool, true, false, refl}
 use Rattle.std.specs.Prelude.{◌↔◌, IsTrue, slice_get}
-use Rattle.hir_raw.specs.declared.raw.RawFacts.{RawFacts}
-use Rattle.hir_facts.specs.Plain.{IsPlainFn}
+use Rattle.hir_facts.specs.Words.{RawFacts}
+use Rattle.hir_facts.specs.Own.{IsPlainFn}
 use Rattle.hir_facts.proofs.PlainFns.{fn_told}
 use Rattle.hir_facts.proofs.facts.Facts.is_plain_fn.Goals as goal
 

@@ -1,8 +1,7 @@
 use Rattle.std.proofs.Common.{◌≡◌, ◌∙◌, ap, sym, subst, get_or, List, Bool, true, false}
 use Rattle.std.specs.Prelude.{◌↔◌, IsTrue}
-use Rattle.hir_raw.specs.declared.raw.RawFacts.{RawFacts}
-use Rattle.hir_facts.specs.WrittenFits.{FitsThere}
-use Rattle.hir_facts.specs.Plain.{IsPlainOver}
+use Rattle.hir_facts.specs.Words.{RawFacts}
+use Rattle.hir_facts.specs.Own.{FitsThere, IsPlainOver}
 use Rattle.hir_facts.proofs.facts.Facts.is_plain_type.Goals as goal
 
 pub returns : goal.returns

@@ -1,5 +1,5 @@
 use Rattle.std.proofs.Common.{◌≡◌, ◌∙◌, ap}
-use Rattle.hir_facts.specs.Ids.{listed_variants}
+use Rattle.hir_ids.specs.Words.{listed_variants}
 use Rattle.hir_ids.proofs.adt_ids.VariantIds.new.Goals as goal
 
 pub returns : goal.returns

@@ -1,5 +1,5 @@
 use Rattle.std.proofs.Common.{◌≡◌, ◌∙◌}
-use Rattle.hir_facts.specs.Ids.{owned_bodies}
+use Rattle.hir_ids.specs.Words.{owned_bodies}
 use Rattle.hir_ids.proofs.body_ids.BodyIds.new.Goals as goal
 
 pub returns : goal.returns

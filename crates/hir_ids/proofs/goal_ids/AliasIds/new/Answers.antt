@@ -1,5 +1,5 @@
 use Rattle.std.proofs.Common.{◌≡◌, ◌∙◌, ap}
-use Rattle.hir_facts.specs.GoalIds.{listed_aliases}
+use Rattle.hir_ids.specs.Words.{listed_aliases}
 use Rattle.hir_ids.proofs.goal_ids.AliasIds.new.Goals as goal
 
 pub returns : goal.returns

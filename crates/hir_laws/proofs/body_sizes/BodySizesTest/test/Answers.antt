@@ -1,4 +1,4 @@
-use Rattle.hir_facts.proofs.Walkable.{scheduled_at}
+use Rattle.hir_laws.proofs.Words.{scheduled_at}
 use Rattle.hir_laws.proofs.body_sizes.BodySizesTest.test.Goals as goal
 
 pub is_small-requires-clause-schedule : goal.is_small-requires-clause-schedule

@@ -1,5 +1,5 @@
 use Rattle.std.proofs.Common.{◌∙◌, sym}
-use Rattle.hir_laws.specs.InBits.{ArePatterns}
+use Rattle.hir_laws.specs.Own.{ArePatterns}
 use Rattle.hir_laws.proofs.PatternLiterals.{fit_from, bits_from, literals_from}
 use Rattle.hir_laws.proofs.literals.LiteralsInBitsTest.test.Goals as goal
 use Rattle.hir_laws.proofs.literals.LiteralsInBitsTest.test.Goals.{then-are_in_bits, else-are_in_bits}

@@ -1,7 +1,7 @@
 use Rattle.std.proofs.lemmas.Result.{IfOk-weaker}
-use Rattle.hir_facts.proofs.Walkable.{scheduled_at}
+use Rattle.hir_laws.proofs.Words.{scheduled_at}
 use Rattle.hir_laws.proofs.Scoping.{scopes_say, deep_scopes}
-use Rattle.hir_raw.specs.declared.mention.Mention.TheVariants as it
+use Rattle.hir_laws.specs.Words.hir_raw.declared.mention.Mention.TheVariants as it
 use Rattle.hir_laws.proofs.scopes.ScopesTest.test.Goals as goal
 
 pub is_low-requires-clause-schedule : goal.is_low-requires-clause-schedule

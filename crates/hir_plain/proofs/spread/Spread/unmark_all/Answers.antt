@@ -1,7 +1,7 @@
 use Rattle.std.proofs.Common.{◌≡◌, ◌∙◌, ap, length, take, get_or, Some, arith}
 use Rattle.std.specs.Prelude.{slice_get}
 use Rattle.std.proofs.lemmas.Option.{slice_get-get_or}
-use Rattle.hir_plain.specs.Spread.{Marks, marks_of}
+use Rattle.hir_plain.specs.Own.{Marks, marks_of}
 use Rattle.hir_plain.proofs.Spreading.{same_size}
 use Rattle.hir_plain.proofs.spread.Spread.unmark_all.Goals as goal
 

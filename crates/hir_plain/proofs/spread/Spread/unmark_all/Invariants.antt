@@ -1,5 +1,5 @@
 use Rattle.std.proofs.Common.{◌≡◌, fold, take}
-use Rattle.hir_plain.specs.Spread.{marks_of, unmarked}
+use Rattle.hir_plain.specs.Own.{marks_of, unmarked}
 use Rattle.hir_plain.proofs.spread.Spread.unmark_all.Given as goal
 
 abbrev pub invariant-loop-node : goal.invariant-loop-node

@@ -1,5 +1,5 @@
 use Rattle.std.proofs.Common.{◌≡◌, IfOk, subst}
-use Rattle.hir_types.specs.FoldedLaws.{goal_itself}
+use Rattle.hir_types.specs.Own.{goal_itself}
 use Rattle.hir_types.proofs.goal.Goal.dup.Goals as goal
 
 pub returns : goal.returns

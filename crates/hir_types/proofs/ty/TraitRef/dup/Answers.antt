@@ -1,5 +1,5 @@
 use Rattle.std.proofs.Common.{◌≡◌, IfOk, subst}
-use Rattle.hir_types.specs.Replacements.{trait_folded_itself}
+use Rattle.hir_types.specs.Own.{trait_folded_itself}
 use Rattle.hir_types.proofs.ty.TraitRef.dup.Goals as goal
 
 pub returns : goal.returns

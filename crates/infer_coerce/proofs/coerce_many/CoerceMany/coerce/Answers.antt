@@ -1,7 +1,6 @@
 use Rattle.std.proofs.Common.{sym, subst}
-use Rattle.infer_ctx.specs.Context.{given_of, scope_in}
-use Rattle.infer_coerce.specs.Coercions.{IsCoerced}
-use Rattle.infer_coerce.specs.Common.{IsFineCommon, Merges}
+use Rattle.infer_coerce.specs.Words.{given_of, scope_in}
+use Rattle.infer_coerce.specs.Own.{IsCoerced, IsFineCommon, Merges}
 use Rattle.infer_coerce.specs.declared.coerce_many.CoerceMany.TheVariants as common
 use Rattle.infer_coerce.proofs.Merged.{coerced_merges}
 use Rattle.infer_coerce.proofs.coerce_many.CoerceMany.coerce.Goals as goal

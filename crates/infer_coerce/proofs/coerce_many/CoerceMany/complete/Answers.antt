@@ -1,8 +1,7 @@
 use Rattle.std.proofs.Common.{sym, subst}
 use Rattle.hir_types.specs.declared.ty.Ty.TheVariants as ty
-use Rattle.infer_table.specs.Table.{hole_count}
-use Rattle.infer_ctx.specs.Context.{scope_in, expected_type, with_table}
-use Rattle.infer_coerce.specs.Common.{Completes}
+use Rattle.infer_coerce.specs.Words.{hole_count, scope_in, expected_type, with_table}
+use Rattle.infer_coerce.specs.Own.{Completes}
 use Rattle.infer_coerce.proofs.Merged.{hole_completes}
 use Rattle.infer_coerce.proofs.coerce_many.CoerceMany.complete.Goals as goal
 

@@ -1,7 +1,5 @@
 use Rattle.std.proofs.Common.{sym, subst}
-use Rattle.hir_raw.specs.declared.raw.RawFacts.{RawFacts}
-use Rattle.infer_goals.specs.Below.{system}
-use Rattle.infer_goals.specs.Obligations.{AreKept}
+use Rattle.infer_ctx.specs.Words.{RawFacts, system, AreKept}
 use Rattle.infer_ctx.proofs.context.InferenceContext.new.Goals as goal
 
 pub returns-clause-goals : goal.returns-clause-goals

@@ -1,7 +1,7 @@
 use Rattle.std.proofs.Common.{◌≡◌, Some, sym, subst, ◌∙◌, IsTrue}
 use Rattle.std.proofs.lemmas.Bool.{false≢true}
-use Rattle.hir_types.specs.declared.ty.Ty.{out-Ty}
-use Rattle.infer_ctx.specs.Context.{unless_empty}
+use Rattle.infer_ctx.specs.Words.{out-Ty}
+use Rattle.infer_ctx.specs.Own.{unless_empty}
 use Rattle.infer_ctx.proofs.Expected.{of_arms_at, unless_empty_other, unless_empty_tuple}
 use Rattle.infer_ctx.proofs.expectation.Expectation.unless_unit.Goals.{in_default-via-in-Tuple+else-is_empty, in_default-via-in_default}
 use Rattle.infer_ctx.proofs.expectation.Expectation.unless_unit.Goals as goal

@@ -1,5 +1,5 @@
 use Rattle.std.proofs.Common.{sym, subst}
-use Rattle.infer_ctx.specs.Callables.{IsSigOfItem}
+use Rattle.infer_ctx.specs.Own.{IsSigOfItem}
 use Rattle.infer_ctx.proofs.given.GivenBody.callable_sig.Goals as goal
 
 pub returns-in_ok-sig-in-FnDef : goal.returns-in_ok-sig-in-FnDef

@@ -1,9 +1,7 @@
 use Rattle.std.proofs.Common.{◌≡◌, ◌∙◌, Some, sym, subst, map}
 use Rattle.std.proofs.lemmas.List.{take_all}
-use Rattle.hir_raw.specs.declared.raw.RawVariant.{RawVariant}
-use Rattle.hir_raw.specs.Hidden.{opened, variant_aliases}
-use Rattle.hir_raw.specs.Signatures.{variant_types}
-use Rattle.infer_ctx.specs.Callables.{field_at}
+use Rattle.infer_ctx.specs.Words.{RawVariant, opened, variant_aliases, variant_types}
+use Rattle.infer_ctx.specs.Own.{field_at}
 use Rattle.infer_ctx.proofs.given.GivenBody.field_tys.Goals as goal
 
 pub returns : goal.returns

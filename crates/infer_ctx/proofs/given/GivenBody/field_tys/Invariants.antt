@@ -1,6 +1,6 @@
 use Rattle.std.proofs.Common.{◌≡◌, map, take}
-use Rattle.hir_raw.specs.Hidden.{opened}
-use Rattle.infer_ctx.specs.Callables.{field_at}
+use Rattle.infer_ctx.specs.Words.{opened}
+use Rattle.infer_ctx.specs.Own.{field_at}
 use Rattle.infer_ctx.proofs.given.GivenBody.field_tys.Given as goal
 
 abbrev pub invariant-loop-field : goal.invariant-loop-field

@@ -1,7 +1,6 @@
 use Rattle.std.proofs.Common.{◌≡◌, ◌∙◌, Some, sym, subst}
-use Rattle.hir_raw.specs.declared.raw.RawFn.{RawFn}
-use Rattle.hir_raw.specs.Hidden.{fn_aliases, opened}
-use Rattle.infer_ctx.specs.Callables.{IsFnSig, written_at}
+use Rattle.infer_ctx.specs.Words.{RawFn, fn_aliases, opened}
+use Rattle.infer_ctx.specs.Own.{IsFnSig, written_at}
 use Rattle.infer_ctx.proofs.given.GivenBody.fn_sig.Goals as goal
 
 pub returns : goal.returns

@@ -1,6 +1,6 @@
 use Rattle.std.proofs.Common.{◌≡◌, map, take}
-use Rattle.hir_raw.specs.Signatures.{fn_types}
-use Rattle.infer_ctx.specs.Callables.{written_at}
+use Rattle.infer_ctx.specs.Words.{fn_types}
+use Rattle.infer_ctx.specs.Own.{written_at}
 use Rattle.infer_ctx.proofs.given.GivenBody.inputs_at.Given as goal
 
 abbrev pub invariant-loop-type_ref : goal.invariant-loop-type_ref

@@ -1,7 +1,6 @@
 use Rattle.std.proofs.Common.{◌≡◌, ◌+◌, ◌-◌, ◌≤◌, suc, subst, arith, rules}
-use Rattle.goal_search.specs.Sources.{system}
-use Rattle.goal_facts.specs.Goals.{asked_goal, IsAnswer}
-use Rattle.infer_goals.specs.SelfTy.{Adds, AreListed, AreOfAll, IsListedIfAbout}
+use Rattle.infer_goals.specs.Words.{system, asked_goal, IsAnswer}
+use Rattle.infer_goals.specs.Own.{Adds, AreListed, AreOfAll, IsListedIfAbout}
 use Rattle.infer_goals.proofs.SelfTy.{adds_start, adds_next, listed_adds, yes_adds}
 use Rattle.infer_goals.proofs.obligations.Obligations.+add_listed.Goals as goal
 

@@ -1,6 +1,6 @@
 use Rattle.std.proofs.Common.{◌-◌}
-use Rattle.goal_search.specs.Sources.{system}
-use Rattle.infer_goals.specs.SelfTy.{Adds, AreOfAll, AreListed}
+use Rattle.infer_goals.specs.Words.{system}
+use Rattle.infer_goals.specs.Own.{Adds, AreOfAll, AreListed}
 use Rattle.infer_goals.proofs.obligations.Obligations.+add_listed.Given as goal
 
 abbrev pub decreases-add_listed : goal.decreases-add_listed

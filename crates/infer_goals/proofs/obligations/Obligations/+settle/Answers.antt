@@ -1,6 +1,6 @@
 use Rattle.std.proofs.Common.{◌≡◌, ◌++◌, length, sym, subst, ◌∙◌, rules}
-use Rattle.goal_search.specs.Sources.{system}
-use Rattle.infer_goals.specs.Obligations.{AreWithin, KeepsOpen, AreSettled}
+use Rattle.infer_goals.specs.Words.{system}
+use Rattle.infer_goals.specs.Own.{AreWithin, KeepsOpen, AreSettled}
 use Rattle.infer_goals.proofs.Settling.{IsSettledBelow, settling_first, settling_more, settling_last, settling_within, settling_open}
 use Rattle.infer_goals.proofs.obligations.Obligations.+settle.Goals as goal
 

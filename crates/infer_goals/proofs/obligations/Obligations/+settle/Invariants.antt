@@ -1,6 +1,6 @@
 use Rattle.std.proofs.Common.{◌+◌, ◌*◌, length}
-use Rattle.goal_search.specs.Sources.{system}
-use Rattle.infer_goals.specs.Obligations.{AreKept}
+use Rattle.infer_goals.specs.Words.{system}
+use Rattle.infer_goals.specs.Own.{AreKept}
 use Rattle.infer_goals.proofs.Settling.{IsSettling}
 use Rattle.infer_goals.proofs.obligations.Obligations.+settle.Given as goal
 

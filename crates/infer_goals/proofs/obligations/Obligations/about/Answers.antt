@@ -1,5 +1,5 @@
-use Rattle.goal_search.specs.Sources.{system}
-use Rattle.infer_goals.specs.SelfTy.{IsListedPending}
+use Rattle.infer_goals.specs.Words.{system}
+use Rattle.infer_goals.specs.Own.{IsListedPending}
 use Rattle.infer_goals.proofs.SelfTy.{all_after}
 use Rattle.infer_goals.proofs.obligations.Obligations.about.Goals as goal
 

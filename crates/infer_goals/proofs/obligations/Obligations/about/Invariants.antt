@@ -1,5 +1,5 @@
-use Rattle.goal_search.specs.Sources.{system}
-use Rattle.infer_goals.specs.SelfTy.{AreOfAll, IsListedPending}
+use Rattle.infer_goals.specs.Words.{system}
+use Rattle.infer_goals.specs.Own.{AreOfAll, IsListedPending}
 use Rattle.infer_goals.proofs.obligations.Obligations.about.Given as goal
 
 abbrev pub invariant-loop-at : goal.invariant-loop-at

@@ -1,5 +1,5 @@
 use Rattle.std.proofs.Common.{sym, ◌∙◌}
-use Rattle.goal_search.specs.Sources.{system}
+use Rattle.infer_goals.specs.Words.{system}
 use Rattle.infer_goals.proofs.SelfTy.{pending_adds, other_adds}
 use Rattle.infer_goals.proofs.obligations.Obligations.add_pending.Goals as goal
 

@@ -1,6 +1,6 @@
 use Rattle.std.proofs.Common.{◌≡◌, ◌∷◌, [], length, ap, ◌∙◌, append_assoc, arith}
 use Rattle.std.specs.Vec.Iter.{into_iter_items}
-use Rattle.goal_search.specs.Sources.{system}
+use Rattle.infer_goals.specs.Words.{system}
 use Rattle.infer_goals.proofs.Scanning.{scanned_more}
 use Rattle.infer_goals.proofs.obligations.Obligations.scan.Goals as goal
 

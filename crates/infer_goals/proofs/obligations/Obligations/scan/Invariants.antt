@@ -1,7 +1,7 @@
 use Rattle.std.proofs.Common.{◌≡◌, ◌++◌, length}
 use Rattle.std.specs.Vec.Iter.{into_iter_items, into_iter_len}
-use Rattle.goal_search.specs.Sources.{system}
-use Rattle.infer_goals.specs.Obligations.{AreKept, AreScanned}
+use Rattle.infer_goals.specs.Words.{system}
+use Rattle.infer_goals.specs.Own.{AreKept, AreScanned}
 use Rattle.infer_goals.proofs.obligations.Obligations.scan.Given as goal
 
 abbrev pub invariant-loop-at : goal.invariant-loop-at

@@ -1,7 +1,7 @@
 use Rattle.std.proofs.Common.{◌-◌, ◌++◌, List, ℕ, length, sym, ap, ◌∙◌, subst}
 use Rattle.std.specs.List.{range_with_len}
-use Rattle.goal_search.specs.Sources.{system}
-use Rattle.infer_goals.specs.Obligations.{AreWithin, KeepsOpen}
+use Rattle.infer_goals.specs.Words.{system}
+use Rattle.infer_goals.specs.Own.{AreWithin, KeepsOpen}
 use Rattle.infer_goals.proofs.Sleeping.{all_numbers}
 use Rattle.infer_goals.proofs.Rounds.{all_looked, none_looked}
 use Rattle.infer_goals.proofs.obligations.Obligations.select_all.Goals as goal

@@ -1,6 +1,6 @@
 use Rattle.std.proofs.Common.{true, Bool, refl, subst}
-use Rattle.goal_search.specs.Sources.{system}
-use Rattle.infer_goals.specs.Obligations.{EndsRound}
+use Rattle.infer_goals.specs.Words.{system}
+use Rattle.infer_goals.specs.Own.{EndsRound}
 use Rattle.infer_goals.proofs.Steps.{went_none, went_then}
 use Rattle.infer_goals.proofs.Rounds.{kept_same}
 use Rattle.infer_goals.proofs.obligations.Obligations.select_awake.Goals as goal

@@ -1,6 +1,6 @@
 use Rattle.std.proofs.Common.{true, ◌-◌}
-use Rattle.goal_search.specs.Sources.{system}
-use Rattle.infer_goals.specs.Obligations.{AreKept, Went, HasAllSince}
+use Rattle.infer_goals.specs.Words.{system}
+use Rattle.infer_goals.specs.Own.{AreKept, Went, HasAllSince}
 use Rattle.infer_goals.proofs.obligations.Obligations.select_awake.Given as goal
 
 abbrev pub invariant-round : goal.invariant-round

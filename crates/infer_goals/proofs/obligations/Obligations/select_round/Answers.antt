@@ -1,6 +1,6 @@
 use Rattle.std.proofs.Common.{◌≡◌, true, sym, ap, ◌∙◌, subst, true≢false}
-use Rattle.goal_search.specs.Sources.{system}
-use Rattle.infer_goals.specs.Obligations.{AreWithin, KeepsOpen, AreUsedUp, Went}
+use Rattle.infer_goals.specs.Words.{system}
+use Rattle.infer_goals.specs.Own.{AreWithin, KeepsOpen, AreUsedUp, Went}
 use Rattle.infer_goals.proofs.Settling.{all_within}
 use Rattle.infer_goals.proofs.Rounds.{kept_same, round_more, round_used, round_last}
 use Rattle.infer_goals.proofs.obligations.Obligations.select_round.Goals as goal

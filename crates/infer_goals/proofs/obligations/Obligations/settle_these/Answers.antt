@@ -1,5 +1,5 @@
 use Rattle.std.proofs.Common.{◌≡◌, sym, ap, ◌∙◌, subst}
-use Rattle.infer_goals.specs.Obligations.{AreWithin}
+use Rattle.infer_goals.specs.Own.{AreWithin}
 use Rattle.infer_goals.proofs.Scanning.{is_within}
 use Rattle.infer_goals.proofs.obligations.Obligations.settle_these.Goals as goal
 

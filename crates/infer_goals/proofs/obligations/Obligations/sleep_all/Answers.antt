@@ -1,8 +1,8 @@
 use Rattle.std.proofs.Common.{◌≡◌, ◌∷◌, [], ◌<◌, length, refl, sym, ap, ◌∙◌, subst, append_assoc, append-nil, arith, rules}
 use Rattle.std.proofs.lemmas.List.{nil_from_length}
 use Rattle.std.specs.Vec.Iter.{into_iter_items}
-use Rattle.goal_tree.specs.declared.tree.GoalTree.{GoalTree}
-use Rattle.infer_goals.specs.Obligations.{FallAsleep}
+use Rattle.infer_goals.specs.Words.{GoalTree}
+use Rattle.infer_goals.specs.Own.{FallAsleep}
 use Rattle.infer_goals.proofs.Lists.{at_among, yielded_among}
 use Rattle.infer_goals.proofs.Sleeping.{asleep_none, asleep_then, all_asleep, all_moved}
 use Rattle.infer_goals.proofs.obligations.Obligations.sleep_all.Goals as goal

@@ -3,9 +3,8 @@ use Rattle.std.specs.Prelude.{Some, slice_get}
 use Rattle.std.proofs.lemmas.List.{nil_from_length}
 use Rattle.std.proofs.lemmas.Option.{same_Some}
 use Rattle.std.specs.Vec.Iter.{into_iter_items}
-use Rattle.goal_tree.specs.declared.obligation.Obligation.{Obligation}
-use Rattle.goal_tree.specs.declared.tree.GoalTree.{GoalTree}
-use Rattle.infer_goals.specs.Obligations.{AreWithin, AreAmongEither, AreAt, AreBelow}
+use Rattle.infer_goals.specs.Words.{Obligation, GoalTree}
+use Rattle.infer_goals.specs.Own.{AreWithin, AreAmongEither, AreAt, AreBelow}
 use Rattle.infer_goals.proofs.Lists.{all_append, all_one, at_among, yielded_among, either_here, either_below}
 use Rattle.infer_goals.proofs.Scanning.{Is, is_within}
 use Rattle.infer_goals.proofs.obligations.Obligations.split.Goals as goal

@@ -1,6 +1,6 @@
 use Rattle.std.proofs.Common.{◌≡◌, ◌++◌, length}
 use Rattle.std.specs.Vec.Iter.{into_iter_items, into_iter_len}
-use Rattle.infer_goals.specs.Obligations.{AreAt, AreBelow, AreAmongEither}
+use Rattle.infer_goals.specs.Own.{AreAt, AreBelow, AreAmongEither}
 use Rattle.infer_goals.proofs.obligations.Obligations.split.Given as goal
 
 abbrev pub invariant-loop-at : goal.invariant-loop-at

@@ -1,6 +1,6 @@
 use Rattle.std.proofs.Common.{sym, ◌∙◌, arith, true≢false}
-use Rattle.goal_search.specs.Sources.{system}
-use Rattle.infer_goals.specs.Obligations.{AreUsedUp}
+use Rattle.infer_goals.specs.Words.{system}
+use Rattle.infer_goals.specs.Own.{AreUsedUp}
 use Rattle.infer_goals.proofs.Later.{later_long}
 use Rattle.infer_goals.proofs.Trying.{taken_by, taken_kept, taken_went, taken_lower}
 use Rattle.infer_goals.proofs.obligations.Obligations.try_select.Goals as goal

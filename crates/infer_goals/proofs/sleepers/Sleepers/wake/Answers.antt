@@ -1,6 +1,6 @@
 use Rattle.std.proofs.Common.{◌+◌, ◌≤◌, List, ℕ, length, refl, ◌∙◌, subst, arith}
-use Rattle.infer_table.specs.Table.{bindings}
-use Rattle.infer_goals.specs.Sleepers.{AreWoken, IsStirredAt, IsStirred}
+use Rattle.infer_goals.specs.Words.{bindings}
+use Rattle.infer_goals.specs.Own.{AreWoken, IsStirredAt, IsStirred}
 use Rattle.infer_goals.proofs.Waking.{stirred_none, stirred_next, stirred_before, woken_none, woken_then, woken_for}
 use Rattle.infer_goals.proofs.sleepers.Sleepers.wake.Goals as goal
 

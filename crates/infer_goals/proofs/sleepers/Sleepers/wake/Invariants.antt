@@ -1,6 +1,6 @@
 use Rattle.std.proofs.Common.{◌≡◌}
-use Rattle.infer_table.specs.Table.{bindings}
-use Rattle.infer_goals.specs.Sleepers.{AreWoken, IsStirred}
+use Rattle.infer_goals.specs.Words.{bindings}
+use Rattle.infer_goals.specs.Own.{AreWoken, IsStirred}
 use Rattle.infer_goals.proofs.sleepers.Sleepers.wake.Given as goal
 
 abbrev pub invariant-loop-place : goal.invariant-loop-place

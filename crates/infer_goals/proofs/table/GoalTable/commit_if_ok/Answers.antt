@@ -1,6 +1,6 @@
 use Rattle.std.proofs.Common.{rules, Ok, Err, ◌∙◌}
 use Rattle.std.specs.Fn.{FnOnceReturnsAtMut}
-use Rattle.infer_goals.specs.Undo.{GoesOn}
+use Rattle.infer_goals.specs.Own.{GoesOn}
 use Rattle.infer_goals.proofs.Undoing.{goes_back, kept_back, all_back}
 use Rattle.infer_goals.proofs.table.GoalTable.commit_if_ok.Goals as goal
 

@@ -1,9 +1,7 @@
 use Rattle.std.proofs.Common.{◌≡◌, sym, subst}
 use Rattle.std.proofs.lemmas.Result.{IfOk-weaker}
-use Rattle.goal_answers.specs.Answers.{answers}
-use Rattle.goal_search.specs.Sources.{system}
-use Rattle.goal_facts.specs.Proofs.{AreProofsUnder}
-use Rattle.goal_tree.proofs.Right.{proofs_of_tree}
+use Rattle.infer_goals.specs.Words.{answers, system, AreProofsUnder}
+use Rattle.infer_goals.proofs.Words.{proofs_of_tree}
 use Rattle.infer_goals.proofs.table.GoalTable.proofs.Goals as goal
 
 pub returns-clause-right : goal.returns-clause-right

@@ -1,6 +1,5 @@
 use Rattle.std.proofs.Common.{◌≡◌, ap, ◌∙◌, arith}
-use Rattle.goal_search.specs.Sources.{system}
-use Rattle.goal_tree.specs.Trees.{registered}
+use Rattle.infer_goals.specs.Words.{system, registered}
 use Rattle.infer_goals.proofs.Kept.{kept_asked}
 use Rattle.infer_goals.proofs.table.GoalTable.register_obligation.Goals as goal
 

@@ -1,7 +1,7 @@
 use Rattle.std.proofs.Common.{◌≡◌, length, Some, None, sym, ap, subst, ◌∙◌}
 use Rattle.std.specs.HashMap.{get}
-use Rattle.hir_types.proofs.Equal.{ty_eq}
-use Rattle.infer_needs.specs.Listed.{FindsIn, IsIndexed}
+use Rattle.infer_needs.proofs.Words.{ty_eq}
+use Rattle.infer_needs.specs.Own.{FindsIn, IsIndexed}
 use Rattle.infer_needs.proofs.Listing.{indexed_put, indexed_push}
 use Rattle.infer_needs.proofs.found.Found.add.Goals as goal
 

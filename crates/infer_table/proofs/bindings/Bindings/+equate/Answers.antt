@@ -1,9 +1,7 @@
 use Rattle.std.proofs.Common.{refl, sym, ap, subst, ◌∙◌, length, arith}
 use Rattle.std.proofs.lemmas.Option.{slice_get_read}
-use Rattle.hir_types.specs.Terms.{Term, hole, term}
-use Rattle.hir_types.specs.Outlines.{outline_term}
-use Rattle.infer_table.specs.Solutions.{log_of, resolved}
-use Rattle.infer_table.specs.Equating.{IsResolved}
+use Rattle.infer_table.specs.Words.{Term, hole, term, outline_term}
+use Rattle.infer_table.specs.Own.{log_of, resolved, IsResolved}
 use Rattle.infer_table.proofs.Unifying.{more_bindings, type_hole, resolved_hole, unifies_put_in_left, part_made, none_nodes_length, none_nodes_part, unified_nodes_part, unified_nodes}
 use Rattle.infer_table.proofs.bindings.Bindings.+equate.Goals as goal
 

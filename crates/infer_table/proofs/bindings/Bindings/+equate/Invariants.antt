@@ -1,8 +1,6 @@
 use Rattle.std.proofs.Common.{◌+◌, ◌*◌, take}
-use Rattle.hir_types.specs.Terms.{chain}
-use Rattle.hir_types.specs.Outlines.{part_terms}
-use Rattle.infer_table.specs.Solutions.{log_of, Unified}
-use Rattle.infer_table.specs.Equating.{OnlyAdds}
+use Rattle.infer_table.specs.Words.{chain, part_terms}
+use Rattle.infer_table.specs.Own.{log_of, Unified, OnlyAdds}
 use Rattle.infer_table.proofs.bindings.Bindings.+equate.Given as goal
 
 -- the levels that are left, and then how near a function stands to the next type

@@ -1,7 +1,7 @@
 use Rattle.std.proofs.Common.{refl, length, subst}
 use Rattle.std.proofs.lemmas.Option.{slice_get_read}
-use Rattle.hir_types.specs.Outlines.{part_term}
-use Rattle.infer_table.specs.MadeTest.{MadeIf}
+use Rattle.infer_table.specs.Words.{part_term}
+use Rattle.infer_table.specs.Own.{MadeIf}
 use Rattle.infer_table.proofs.HolesMade.{made_more, not_made}
 use Rattle.infer_table.proofs.bindings.Bindings.+made.Goals as goal
 

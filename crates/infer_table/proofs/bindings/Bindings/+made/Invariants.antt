@@ -1,7 +1,6 @@
 use Rattle.std.proofs.Common.{◌+◌, ◌*◌, take}
-use Rattle.hir_types.specs.Terms.{chain}
-use Rattle.hir_types.specs.Outlines.{part_terms}
-use Rattle.infer_table.specs.Solutions.{AreOf}
+use Rattle.infer_table.specs.Words.{chain, part_terms}
+use Rattle.infer_table.specs.Own.{AreOf}
 use Rattle.infer_table.proofs.bindings.Bindings.+made.Given as goal
 
 -- the levels that are left, and then how near a function stands to the next type

@@ -1,9 +1,8 @@
-use Rattle.hir_types.specs.declared.ty.AliasBound.{AliasBound}
+use Rattle.infer_table.specs.Words.{AliasBound}
 use Rattle.hir_types.specs.declared.ty.Ty.TheVariants as ty
 use Rattle.hir_types.specs.declared.ty.GenericArg.TheVariants as arg
 use Rattle.std.proofs.Common.{refl}
-use Rattle.infer_table.specs.OpenedLists.{opens_tuple, opens_array, opens_adt, opens_fn_def, opens_associated_type, opens_fn_ptr, opens_closure, opens_arg_const}
-use Rattle.infer_table.specs.Opening.{origins_of, makes_both}
+use Rattle.infer_table.specs.Own.{opens_tuple, opens_array, opens_adt, opens_fn_def, opens_associated_type, opens_fn_ptr, opens_closure, opens_arg_const, origins_of, makes_both}
 use Rattle.infer_table.proofs.Openings.{types_step, args_step, bounds_step, opens_same, arg_same, dynamic_copied}
 use Rattle.infer_table.proofs.bindings.Bindings.+open.Goals as goal
 

@@ -1,8 +1,6 @@
 use Rattle.std.proofs.Common.{map, take}
-use Rattle.hir_types.specs.Terms.{arg_term}
-use Rattle.hir_types.specs.TermLaws.{parts_of_types}
-use Rattle.infer_table.specs.OpenedLists.{OpensParts, bounds_terms}
-use Rattle.infer_table.specs.Opening.{OnlyMakes, origins_of}
+use Rattle.infer_table.specs.Words.{arg_term, parts_of_types}
+use Rattle.infer_table.specs.Own.{OpensParts, bounds_terms, OnlyMakes, origins_of}
 use Rattle.infer_table.proofs.bindings.Bindings.+open.Given as goal
 
 abbrev pub invariant-open_types-loop-ty : goal.invariant-open_types-loop-ty

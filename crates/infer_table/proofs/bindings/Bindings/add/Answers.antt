@@ -1,7 +1,6 @@
 use Rattle.std.proofs.Common.{◌≡◌, ◌∙◌, Some, length, slice_set, refl, sym, ap, subst, arith}
-use Rattle.hir_types.specs.Terms.{hole_number}
-use Rattle.infer_table.specs.declared.bindings.Variable.{Variable}
-use Rattle.infer_table.specs.Bindings.{Substitution, IsKept, MayBind, kinds_of, with_binding}
+use Rattle.infer_table.specs.Words.{hole_number}
+use Rattle.infer_table.specs.Own.{Variable, Substitution, IsKept, MayBind, kinds_of, with_binding}
 use Rattle.infer_table.proofs.Kept.{kept_add, views_same}
 use Rattle.infer_table.proofs.bindings.Bindings.add.Goals as goal
 

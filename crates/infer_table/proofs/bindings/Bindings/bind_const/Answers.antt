@@ -1,6 +1,6 @@
 use Rattle.std.proofs.Common.{refl}
 use Rattle.hir_types.specs.declared.head.Hole.TheVariants as hole_of
-use Rattle.hir_types.specs.Terms.{const_term}
+use Rattle.infer_table.specs.Words.{const_term}
 use Rattle.infer_table.specs.declared.binding.Binding.TheVariants as binding
 use Rattle.infer_table.proofs.Unifying.{unified_binding}
 use Rattle.infer_table.proofs.bindings.Bindings.bind_const.Goals as goal

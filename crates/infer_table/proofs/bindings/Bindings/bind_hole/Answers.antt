@@ -1,7 +1,6 @@
 use Rattle.std.proofs.Common.{sym, ap, subst, ◌∙◌}
-use Rattle.hir_types.specs.Terms.{Term, hole, term}
-use Rattle.hir_types.specs.Outlines.{outline_term}
-use Rattle.infer_table.specs.Equating.{IsResolved}
+use Rattle.infer_table.specs.Words.{Term, hole, term, outline_term}
+use Rattle.infer_table.specs.Own.{IsResolved}
 use Rattle.infer_table.proofs.Unifying.{type_hole, resolved_hole, unifies_put_in_right}
 use Rattle.infer_table.proofs.bindings.Bindings.bind_hole.Goals as goal
 

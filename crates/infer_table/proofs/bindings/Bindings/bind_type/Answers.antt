@@ -1,5 +1,5 @@
 use Rattle.std.proofs.Common.{sym, ◌∙◌}
-use Rattle.hir_types.specs.Terms.{term}
+use Rattle.infer_table.specs.Words.{term}
 use Rattle.infer_table.proofs.Unifying.{none_of_cycle, unified_binding}
 use Rattle.infer_table.proofs.bindings.Bindings.bind_type.Goals as goal
 

@@ -3,10 +3,8 @@ use Rattle.std.specs.Option.{option_copied}
 use Rattle.std.specs.List.{slice_get}
 use Rattle.std.proofs.lemmas.Bool.{iff_false}
 use Rattle.std.proofs.lemmas.Option.{slice_get_past, slice_get_read}
-use Rattle.hir_types.specs.Terms.{hole_number}
-use Rattle.infer_table.specs.declared.bindings.Variable.{Variable}
-use Rattle.infer_table.specs.Solutions.{hole_kind}
-use Rattle.infer_table.specs.Bindings.{Substitution, found_binding}
+use Rattle.infer_table.specs.Words.{hole_number}
+use Rattle.infer_table.specs.Own.{Variable, hole_kind, Substitution, found_binding}
 use Rattle.infer_table.proofs.Kept.{found_missing, found_other, found_open, found_placed}
 use Rattle.infer_table.proofs.bindings.Bindings.bound.Goals as goal
 

@@ -1,8 +1,7 @@
 use Rattle.std.proofs.Common.{sym, subst}
 use Rattle.hir_types.specs.declared.head.Hole.TheVariants as hole_of
-use Rattle.hir_types.specs.declared.ty.Const.{Const}
-use Rattle.hir_types.specs.Terms.{const_term}
-use Rattle.infer_table.specs.MadeTest.{MadeIf}
+use Rattle.infer_table.specs.Words.{Const, const_term}
+use Rattle.infer_table.specs.Own.{MadeIf}
 use Rattle.infer_table.proofs.HolesMade.{hole_made}
 use Rattle.infer_table.proofs.bindings.Bindings.const_is_made.Goals as goal
 

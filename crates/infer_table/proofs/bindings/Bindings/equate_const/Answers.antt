@@ -1,9 +1,8 @@
 use Rattle.std.proofs.Common.{refl}
 use Rattle.hir_types.specs.declared.head.Hole.TheVariants as hole_of
 use Rattle.hir_types.specs.declared.ty.Const.TheVariants as const
-use Rattle.hir_types.specs.Terms.{const_term}
-use Rattle.infer_table.specs.Solutions.{log_of}
-use Rattle.infer_table.specs.TermLemmas.{hole_eq_same}
+use Rattle.infer_table.specs.Words.{const_term}
+use Rattle.infer_table.specs.Own.{log_of, hole_eq_same}
 use Rattle.infer_table.proofs.UnifyLaws.{unified_if_put_in}
 use Rattle.infer_table.proofs.Unifying.{open_from, same_bindings, unifies_put_in, unifies_flip, consts_compared}
 use Rattle.infer_table.proofs.bindings.Bindings.equate_const.Goals as goal

@@ -1,5 +1,5 @@
 use Rattle.std.proofs.Common.{arith, refl, length, ap, sym, subst}
-use Rattle.infer_table.specs.FallBack.{NoneOpenBelow}
+use Rattle.infer_table.specs.Own.{NoneOpenBelow}
 use Rattle.infer_table.proofs.FallingBack.{falls_none, falls_more, none_open_more}
 use Rattle.infer_table.proofs.bindings.Bindings.fall_back_integers.Goals as goal
 

@@ -1,4 +1,4 @@
-use Rattle.infer_table.specs.FallBack.{OnlyFalls, NoneOpenBelow}
+use Rattle.infer_table.specs.Own.{OnlyFalls, NoneOpenBelow}
 use Rattle.infer_table.proofs.bindings.Bindings.fall_back_integers.Given as goal
 
 -- the holes so far are bound

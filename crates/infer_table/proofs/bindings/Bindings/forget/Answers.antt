@@ -1,6 +1,5 @@
 use Rattle.std.proofs.Common.{subst, sym, List, take, ◌∙◌, ap}
-use Rattle.infer_table.specs.declared.bindings.Variable.{Variable}
-use Rattle.infer_table.specs.Bindings.{Substitution, AllOf, IsKept, kinds_of}
+use Rattle.infer_table.specs.Own.{Variable, Substitution, AllOf, IsKept, kinds_of}
 use Rattle.infer_table.proofs.Kept.{kept_forget, kinds_of_take}
 use Rattle.infer_table.proofs.bindings.Bindings.forget.Goals as goal
 

@@ -1,6 +1,6 @@
 use Rattle.std.proofs.Common.{ap, ◌∙◌}
-use Rattle.hir_types.specs.Terms.{const_term}
-use Rattle.infer_table.specs.Resolution.{resolution_const_term}
+use Rattle.infer_table.specs.Words.{const_term}
+use Rattle.infer_table.specs.Own.{resolution_const_term}
 use Rattle.infer_table.proofs.Unifying.{known_resolved}
 use Rattle.infer_table.proofs.bindings.Bindings.known_const.Goals as goal
 

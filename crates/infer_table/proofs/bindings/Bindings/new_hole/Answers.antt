@@ -1,6 +1,5 @@
 use Rattle.std.proofs.Common.{refl, sym, subst, List, None}
-use Rattle.infer_table.specs.declared.bindings.Variable.{Variable}
-use Rattle.infer_table.specs.Bindings.{IsKept}
+use Rattle.infer_table.specs.Own.{Variable, IsKept}
 use Rattle.infer_table.proofs.Kept.{kept_new}
 use Rattle.infer_table.proofs.bindings.Bindings.new_hole.Goals as goal
 

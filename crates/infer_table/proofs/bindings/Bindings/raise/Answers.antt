@@ -1,7 +1,7 @@
 use Rattle.std.proofs.Common.{◌≡◌, ◌∙◌, ◌<◌, Some, length, refl, slice_set, arith}
 use Rattle.std.specs.List.{slice_get}
 use Rattle.std.proofs.lemmas.Option.{slice_get_read}
-use Rattle.infer_table.specs.declared.bindings.Variable.{Variable}
+use Rattle.infer_table.specs.Own.{Variable}
 use Rattle.infer_table.proofs.Kept.{kept_same, kinds_of_set, views_same}
 use Rattle.infer_table.proofs.bindings.Bindings.raise.Goals as goal
 

@@ -1,11 +1,8 @@
 use Rattle.std.proofs.Common.{◌≡◌, ℕ, ◌<◌, ◌∙◌, refl, sym, ap, subst}
-use Rattle.hir_types.specs.declared.ty.Const.{Const}
+use Rattle.infer_table.specs.Words.{Const, Assignment, const_folded, const_term}
 use Rattle.hir_types.specs.declared.ty.Const.TheVariants as const
 use Rattle.hir_types.specs.declared.head.Hole.TheVariants as hole_of
-use Rattle.hir_types.specs.Subst.{Assignment, const_folded}
-use Rattle.hir_types.specs.Terms.{const_term}
-use Rattle.infer_table.specs.Solutions.{log_of}
-use Rattle.infer_table.specs.Resolution.{resolution, found_const_var, open_const_var, const_found, no_const_found, const_in_log}
+use Rattle.infer_table.specs.Own.{log_of, resolution, found_const_var, open_const_var, const_found, no_const_found, const_in_log}
 use Rattle.infer_table.proofs.Weights.{weight, weight_found}
 use Rattle.infer_table.proofs.bindings.Bindings.resolve_const.Goals as goal
 

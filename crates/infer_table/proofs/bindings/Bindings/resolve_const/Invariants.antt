@@ -1,8 +1,6 @@
 use Rattle.std.proofs.Common.{◌≡◌}
-use Rattle.hir_types.specs.Subst.{const_folded}
-use Rattle.hir_types.specs.Terms.{const_term}
-use Rattle.infer_table.specs.Solutions.{log_of}
-use Rattle.infer_table.specs.Resolution.{resolution}
+use Rattle.infer_table.specs.Words.{const_folded, const_term}
+use Rattle.infer_table.specs.Own.{log_of, resolution}
 use Rattle.infer_table.proofs.Weights.{weight}
 use Rattle.infer_table.proofs.bindings.Bindings.resolve_const.Given as goal
 

@@ -1,6 +1,6 @@
 use Rattle.std.proofs.Common.{subst}
-use Rattle.hir_types.specs.Terms.{term}
-use Rattle.infer_table.specs.Settling.{IsTypeHoleIf}
+use Rattle.infer_table.specs.Words.{term}
+use Rattle.infer_table.specs.Own.{IsTypeHoleIf}
 use Rattle.infer_table.proofs.Settling.{open_hole, settles_at, settles_here}
 use Rattle.infer_table.proofs.bindings.Bindings.settle.Goals as goal
 

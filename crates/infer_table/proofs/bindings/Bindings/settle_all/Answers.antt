@@ -1,8 +1,6 @@
 use Rattle.std.proofs.Common.{length, sym, subst, refl, ap, arith}
 use Rattle.std.proofs.lemmas.Option.{slice_get_read}
-use Rattle.infer_table.specs.Solutions.{log_of}
-use Rattle.infer_table.specs.Opening.{origins_of}
-use Rattle.infer_table.specs.Settling.{IsOriginOf}
+use Rattle.infer_table.specs.Own.{log_of, origins_of, IsOriginOf}
 use Rattle.infer_table.proofs.Settling.{origin_at, settled_more, binds_none, binds_more}
 use Rattle.infer_table.proofs.Unifying.{same_bindings, more_bindings}
 use Rattle.infer_table.proofs.bindings.Bindings.settle_all.Goals as goal

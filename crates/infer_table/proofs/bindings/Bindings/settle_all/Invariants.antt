@@ -1,9 +1,5 @@
 use Rattle.std.proofs.Common.{◌≡◌, [], take}
-use Rattle.infer_table.specs.Solutions.{log_of}
-use Rattle.infer_table.specs.Equating.{OnlyAdds}
-use Rattle.infer_table.specs.OpenedAgree.{AreSettled}
-use Rattle.infer_table.specs.Opening.{origins_of}
-use Rattle.infer_table.specs.Least.{BindsSome}
+use Rattle.infer_table.specs.Own.{log_of, OnlyAdds, AreSettled, origins_of, BindsSome}
 use Rattle.infer_table.proofs.bindings.Bindings.settle_all.Given as goal
 
 -- the origins so far are settled, and only bindings were added

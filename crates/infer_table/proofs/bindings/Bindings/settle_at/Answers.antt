@@ -1,5 +1,5 @@
 use Rattle.std.proofs.Common.{sym, ◌∙◌}
-use Rattle.hir_types.specs.Terms.{term}
+use Rattle.infer_table.specs.Words.{term}
 use Rattle.hir_types.specs.declared.head.Hole.TheVariants as hole_of
 use Rattle.infer_table.proofs.Settling.{settles_stands, settles_bind}
 use Rattle.infer_table.proofs.Unifying.{may_bind}

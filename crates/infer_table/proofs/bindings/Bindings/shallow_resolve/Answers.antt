@@ -1,7 +1,6 @@
 use Rattle.std.proofs.Common.{◌<◌, ◌∙◌, sym, subst}
-use Rattle.hir_types.specs.Terms.{Term, term}
-use Rattle.infer_table.specs.Solutions.{log_of}
-use Rattle.infer_table.specs.Resolution.{found_for_folded, found_for_in_log, none_for}
+use Rattle.infer_table.specs.Words.{Term, term}
+use Rattle.infer_table.specs.Own.{log_of, found_for_folded, found_for_in_log, none_for}
 use Rattle.infer_table.proofs.HolesMade.{made_found}
 use Rattle.infer_table.proofs.Weights.{weight, weight_found}
 use Rattle.infer_table.proofs.bindings.Bindings.shallow_resolve.Goals as goal

@@ -1,8 +1,6 @@
 use Rattle.std.proofs.Common.{◌≡◌}
-use Rattle.hir_types.specs.Subst.{folded}
-use Rattle.hir_types.specs.Terms.{term}
-use Rattle.infer_table.specs.Solutions.{log_of, AreOf}
-use Rattle.infer_table.specs.Resolution.{resolution}
+use Rattle.infer_table.specs.Words.{folded, term}
+use Rattle.infer_table.specs.Own.{log_of, AreOf, resolution}
 use Rattle.infer_table.proofs.Weights.{weight}
 use Rattle.infer_table.proofs.bindings.Bindings.shallow_resolve.Given as goal
 

@@ -1,9 +1,7 @@
 use Rattle.std.proofs.Common.{◌≡◌, ◌∙◌, ◌-◌, ◌<◌, None, List, length, slice_set, take, refl, sym, ap, subst, arith}
 use Rattle.std.proofs.lemmas.Option.{slice_get_read}
-use Rattle.hir_types.specs.Terms.{hole_number}
-use Rattle.infer_table.specs.declared.binding.Binding.{Binding}
-use Rattle.infer_table.specs.declared.bindings.Variable.{Variable}
-use Rattle.infer_table.specs.Bindings.{Substitution, IsKept, kinds_of}
+use Rattle.infer_table.specs.Words.{hole_number}
+use Rattle.infer_table.specs.Own.{Binding, Variable, Substitution, IsKept, kinds_of}
 use Rattle.infer_table.proofs.Kept.{kept_cut}
 use Rattle.infer_table.proofs.bindings.Bindings.undo.Goals as goal
 

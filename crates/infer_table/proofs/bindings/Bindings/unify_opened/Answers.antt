@@ -1,12 +1,6 @@
 use Rattle.std.proofs.Common.{◌≡◌, Bool, List, [], length, sym, subst, ◌∙◌}
-use Rattle.hir_types.specs.declared.head.HoleKind.{HoleKind}
-use Rattle.hir_types.specs.Terms.{term}
-use Rattle.infer_table.specs.declared.open.Origin.{Origin}
-use Rattle.infer_table.specs.Solutions.{log_of, UnifiedIf}
-use Rattle.infer_table.specs.Opening.{origins_of}
-use Rattle.infer_table.specs.OpenedAgree.{AreSettled}
-use Rattle.infer_table.specs.Least.{BindsSome}
-use Rattle.infer_table.specs.Settling.{AreOriginsOf}
+use Rattle.infer_table.specs.Words.{HoleKind, term}
+use Rattle.infer_table.specs.Own.{Origin, log_of, UnifiedIf, origins_of, AreSettled, BindsSome, AreOriginsOf}
 use Rattle.infer_table.proofs.OpenedBoth.{both_opened, BothOpened, opened_refused, opened_unified}
 use Rattle.infer_table.proofs.bindings.Bindings.unify_opened.Goals as goal
 

@@ -1,6 +1,6 @@
 use Rattle.std.proofs.Common.{sym, subst}
 use Rattle.infer_table.proofs.FrontLaws.{all_taken_push}
-use Rattle.infer_table.specs.Waiting.{Waiting, AllTakenBelow}
+use Rattle.infer_table.specs.Own.{Waiting, AllTakenBelow}
 use Rattle.infer_table.proofs.queue.PairQueue.take.Goals as goal
 
 pub first_left-self-inside-requires : goal.first_left-self-inside-requires

@@ -1,5 +1,5 @@
 use Rattle.std.proofs.Common.{refl, sym}
-use Rattle.infer_table.specs.Resolution.{open_var}
+use Rattle.infer_table.specs.Own.{open_var}
 use Rattle.infer_table.proofs.resolver.ResolverTypeFolder.fold_var.Goals as goal
 
 pub returns : goal.returns

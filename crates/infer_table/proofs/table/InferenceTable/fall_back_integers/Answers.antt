@@ -1,6 +1,5 @@
 use Rattle.std.proofs.Common.{sym, refl, subst}
-use Rattle.infer_table.specs.FallBack.{FellBack}
-use Rattle.infer_table.specs.Table.{State, PairsAreOf, Grew}
+use Rattle.infer_table.specs.Own.{FellBack, State, PairsAreOf, Grew}
 use Rattle.infer_table.proofs.FallingBack.{fallen_grew, fell_back}
 use Rattle.infer_table.proofs.table.InferenceTable.fall_back_integers.Goals as goal
 

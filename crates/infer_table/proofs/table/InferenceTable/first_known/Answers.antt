@@ -1,8 +1,7 @@
 use Rattle.std.proofs.Common.{◌≡◌, ◌⊎◌, inl, inr, sym, ap, subst, ◌∙◌, length, Some, None, option_copied, arith, true≢false}
-use Rattle.infer_table.specs.Table.{State, IsNoOpenHole}
+use Rattle.infer_table.specs.Own.{State, IsNoOpenHole, left_at, AllTakenBelow}
 use Rattle.infer_table.proofs.FrontLaws.{all_unknown_front}
 use Rattle.infer_table.proofs.TableLaws.{all_unknown_none, all_unknown_more, unknown_from_not}
-use Rattle.infer_table.specs.Waiting.{left_at, AllTakenBelow}
 use Rattle.infer_table.proofs.table.InferenceTable.first_known.Goals.{then-is_known-via-then-is_known, then-is_known-via-else-is_known+then-is_known-2, in-Some+else-is_known+else-is_known-2, in_default}
 use Rattle.infer_table.proofs.table.InferenceTable.first_known.Goals as goal
 

@@ -1,5 +1,4 @@
-use Rattle.infer_table.specs.Table.{AllUnknown}
-use Rattle.infer_table.specs.Waiting.{left_before}
+use Rattle.infer_table.specs.Own.{AllUnknown, left_before}
 use Rattle.infer_table.proofs.table.InferenceTable.first_known.Given as goal
 
 abbrev pub invariant-loop-at : goal.invariant-loop-at

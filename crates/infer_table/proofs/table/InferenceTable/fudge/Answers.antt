@@ -1,5 +1,5 @@
 use Rattle.std.proofs.Common.{◌∙◌, Ok, Err, ap, subst, sym, refl}
-use Rattle.infer_table.specs.Undo.{IsResolvedOr}
+use Rattle.infer_table.specs.Own.{IsResolvedOr}
 use Rattle.infer_table.proofs.UndoLaws.{fresh}
 use Rattle.infer_table.proofs.table.InferenceTable.fudge.Goals as goal
 

@@ -1,7 +1,6 @@
 use Rattle.std.proofs.Common.{◌≡◌, sym, subst, ◌∙◌}
-use Rattle.hir_types.specs.declared.ty.Ty.{out-Ty}
-use Rattle.infer_table.specs.Resolution.{IsOpenOrKnown}
-use Rattle.infer_table.specs.Table.{State, bindings, resolved_type}
+use Rattle.infer_table.specs.Words.{out-Ty}
+use Rattle.infer_table.specs.Own.{IsOpenOrKnown, State, bindings, resolved_type}
 use Rattle.infer_table.proofs.TableLaws.{is_var, is_var_at, no_var_at, known_where}
 use Rattle.infer_table.proofs.table.InferenceTable.is_known.Goals.{in-Var, in_default}
 use Rattle.infer_table.proofs.table.InferenceTable.is_known.Goals as goal

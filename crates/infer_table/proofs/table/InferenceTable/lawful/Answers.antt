@@ -1,7 +1,6 @@
 use Rattle.std.proofs.Common.{subst}
 use Rattle.infer_table.proofs.CompletionLaws.{completion_meets, completion_respects}
-use Rattle.infer_table.specs.Solutions.{Triangular, log_of}
-use Rattle.infer_table.specs.Table.{State, bindings}
+use Rattle.infer_table.specs.Own.{Triangular, log_of, State, bindings}
 use Rattle.infer_table.proofs.table.InferenceTable.lawful.Goals as goal
 
 abbrev HasNoCycle : State → Type 0

@@ -1,9 +1,7 @@
 use Rattle.std.proofs.Common.{ap, sym, subst}
 use Rattle.hir_types.specs.declared.head.HoleKind.TheVariants as kind
-use Rattle.infer_table.specs.Bindings.{Substitution}
-use Rattle.infer_table.specs.Table.{State, PairsAreOf, hole_count}
+use Rattle.infer_table.specs.Own.{Substitution, State, PairsAreOf, hole_count, AreUnusedFrom}
 use Rattle.infer_table.proofs.TableLaws.{pairs_are_of_hole}
-use Rattle.infer_table.specs.Undo.{AreUnusedFrom}
 use Rattle.infer_table.proofs.UndoLaws.{fresh}
 use Rattle.infer_table.proofs.table.InferenceTable.next_const_var.Goals as goal
 

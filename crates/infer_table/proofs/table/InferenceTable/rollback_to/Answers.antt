@@ -1,5 +1,5 @@
 use Rattle.std.proofs.Common.{ap, sym, subst}
-use Rattle.infer_table.specs.Table.{State, GrewFrom, Undoes}
+use Rattle.infer_table.specs.Own.{State, GrewFrom, Undoes}
 use Rattle.infer_table.proofs.UndoLaws.{undone, may_cut, pairs_kept}
 use Rattle.infer_table.proofs.table.InferenceTable.rollback_to.Goals as goal
 

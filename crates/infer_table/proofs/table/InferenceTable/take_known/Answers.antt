@@ -1,5 +1,5 @@
 use Rattle.std.proofs.Common.{sym, subst}
-use Rattle.infer_table.specs.Table.{State, IsFirstKnown, TakesFirstKnown}
+use Rattle.infer_table.specs.Own.{State, IsFirstKnown, TakesFirstKnown}
 use Rattle.infer_table.proofs.TableLaws.{takes_first_known}
 use Rattle.infer_table.proofs.table.InferenceTable.take_known.Goals as goal
 

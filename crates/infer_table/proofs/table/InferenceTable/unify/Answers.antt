@@ -1,6 +1,6 @@
 use Rattle.std.proofs.Common.{refl, subst}
-use Rattle.hir_types.specs.Terms.{term}
-use Rattle.infer_table.specs.Table.{State, AreUnifiedIf}
+use Rattle.infer_table.specs.Words.{term}
+use Rattle.infer_table.specs.Own.{State, AreUnifiedIf}
 use Rattle.infer_table.proofs.UnifiedTables.{kinds_front, pairs_front, unified_if}
 use Rattle.infer_table.proofs.table.InferenceTable.unify.Goals as goal
 

@@ -1,10 +1,7 @@
 use Rattle.std.proofs.Common.{sym, subst}
-use Rattle.hir_types.specs.declared.ty.Ty.{Ty}
-use Rattle.hir_types.specs.Terms.{term}
-use Rattle.infer_table.specs.Solutions.{AreOf}
-use Rattle.infer_table.specs.Table.{State, HolesAreOf, PairsAreOf}
+use Rattle.infer_table.specs.Words.{Ty, term}
+use Rattle.infer_table.specs.Own.{AreOf, State, HolesAreOf, PairsAreOf, Waiting}
 use Rattle.infer_table.proofs.TableLaws.{pairs_are_of_last}
-use Rattle.infer_table.specs.Waiting.{Waiting}
 use Rattle.infer_table.proofs.table.InferenceTable.wait.Goals as goal
 
 pub invariant_of-self-2 : goal.invariant_of-self-2

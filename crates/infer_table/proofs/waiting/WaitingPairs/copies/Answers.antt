@@ -1,8 +1,7 @@
 use Rattle.std.proofs.Common.{◌≡◌, ◌∙◌, ◌+◌, length, take, List, refl, ap, sym, subst, [], ◌∷◌, ◌++◌}
 use Rattle.std.proofs.lemmas.List.{append-nil}
 use Rattle.std.proofs.lemmas.Option.{slice_get_read}
-use Rattle.infer_table.specs.declared.waiting.WaitingPair.{WaitingPair}
-use Rattle.infer_table.specs.Waiting.{Waiting, left_from}
+use Rattle.infer_table.specs.Own.{WaitingPair, Waiting, left_from}
 use Rattle.infer_table.proofs.WaitingLaws.{left_from-entry}
 use Rattle.infer_table.proofs.waiting.WaitingPairs.copies.Goals as goal
 

@@ -1,5 +1,5 @@
 use Rattle.std.proofs.Common.{◌≡◌, take}
-use Rattle.infer_table.specs.Waiting.{left_from}
+use Rattle.infer_table.specs.Own.{left_from}
 use Rattle.infer_table.proofs.waiting.WaitingPairs.copies.Given as goal
 
 abbrev pub invariant-loop-entry : goal.invariant-loop-entry

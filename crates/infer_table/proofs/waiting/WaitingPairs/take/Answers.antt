@@ -2,8 +2,7 @@ use Rattle.std.proofs.Common.{◌≡◌, ◌∙◌, ◌<◌, length, ap, sym, su
 use Rattle.std.specs.Option.{IsSome}
 use Rattle.std.proofs.lemmas.List.{length-map}
 use Rattle.std.proofs.lemmas.Option.{slice_get_read, slice_get_within}
-use Rattle.infer_table.specs.declared.waiting.Entry.{Entry}
-use Rattle.infer_table.specs.Waiting.{Waiting, waiting, pairs_of, left_at}
+use Rattle.infer_table.specs.Own.{Entry, Waiting, waiting, pairs_of, left_at}
 use Rattle.infer_table.proofs.WaitingLaws.{IsLeft-exists, AreMarked-take, pairs_of-mark, waiting-with_taken}
 use Rattle.infer_table.proofs.waiting.WaitingPairs.take.Goals as goal
 

@@ -1,6 +1,6 @@
 use Rattle.std.proofs.Common.{◌∙◌, ap, subst, refl}
 use Rattle.std.proofs.lemmas.List.{map_push}
-use Rattle.infer_table.specs.Waiting.{waiting, AllMade}
+use Rattle.infer_table.specs.Own.{waiting, AllMade}
 use Rattle.infer_table.proofs.WaitingLaws.{waiting-with_pair, AllMade-from_marks}
 use Rattle.infer_table.proofs.waiting.WaitingPairs.wait.Goals as goal
 

@@ -1,8 +1,7 @@
 use Rattle.std.proofs.Common.{ap, ◌∙◌, subst}
-use Rattle.hir_types.specs.Terms.{pair}
-use Rattle.goal_terms.specs.Terms.{term_of, term_of_hole, term_of_leaf}
-use Rattle.goal_terms.proofs.Owned.{pair_of, same_made}
-use Rattle.infer_unify.specs.Opening.{aliases_of, IsOpened, IsPutFor}
+use Rattle.infer_unify.specs.Words.{pair, term_of, term_of_hole, term_of_leaf}
+use Rattle.infer_unify.proofs.Words.{pair_of, same_made}
+use Rattle.infer_unify.specs.Own.{aliases_of, IsOpened, IsPutFor}
 use Rattle.infer_unify.proofs.Openings.{after_hole, after_leaf, after_pair}
 use Rattle.infer_unify.proofs.opening.Opening.+open.Goals as goal
 

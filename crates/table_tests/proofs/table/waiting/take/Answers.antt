@@ -1,4 +1,4 @@
-use Rattle.infer_table.proofs.HoleLaws.{grew_by_taking}
+use Rattle.table_tests.proofs.Words.{grew_by_taking}
 use Rattle.table_tests.proofs.table.waiting.take.Goals as goal
 
 pub returns : goal.returns

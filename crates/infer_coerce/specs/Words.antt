@@ -1,0 +1,32 @@
+-- What this crate takes from those below it.
+pub use Rattle.infer_ctx.specs.Words.hir_raw
+pub use Rattle.infer_ctx.specs.Words.hir_facts
+pub use Rattle.infer_ctx.specs.Words.infer_table
+pub use Rattle.infer_ctx.specs.Words.goal_facts
+pub use Rattle.infer_ctx.specs.Words.goal_tree
+pub use Rattle.infer_ctx.specs.Words.infer_result
+pub use Rattle.infer_ctx.specs as infer_ctx
+pub use Rattle.hir_types.specs.Own.{erased, fallback, Assignment, composed, folded, term_adt_types, term_associated_types, term_bool, term_char, term_error, term_fn_def_types, term_param, term_tuple, IsInt, hole, term, terms_of, integer_type, unit}
+pub use Rattle.hir_types.specs.declared.head.Hole.{Hole}
+pub use Rattle.hir_types.specs.declared.head.HoleKind.{HoleKind}
+pub use Rattle.hir_types.specs.declared.ids.ExprId.{ExprId}
+pub use Rattle.hir_types.specs.declared.ty.IntegerTy.{IntegerTy}
+pub use Rattle.hir_types.specs.declared.ty.Ty.{Ty}
+pub use Rattle.infer_ctx.specs.Words.{arg_fits, ty_fits, arg_fits_ty, ty_fits_adt, ty_fits_associated, ty_fits_bool, ty_fits_char, ty_fits_error, ty_fits_fndef, ty_fits_int, ty_fits_intvar, ty_fits_param, ty_fits_tuple, ty_fits_uint, ty_fits_var, arg_types, is_sized_lang, fn_aliases, is_alias, variant_aliases, expr_aliases, let_aliases, masked, stmt_aliases, alias_is_hole, other_is_itself, Binds, IsInBody, IsSchedule, Node, Part, Role, after, argument, arm, arm_parts, arm_pattern, arm_patterns, arms_parts, binding_of, body_parts, callee, condition, element, else_branch, end, expr_part, exprs_from, guard, initializer, inner, let_pattern, maybe_part, param_parts, parameter, part_at, parts_of_expr, parts_of_pat, pat_part, pat_parts, pattern_literal, root, scrutinee, start, statement, stmt_at, stmt_parts, stmts_of, stmts_parts, subpattern, subpatterns, tail, the_body, then_branch, Scope, adt_params, alias_params, callable_params, count_or_none, fn_arity, has_associated, has_associated_by, has_params, is_size_goal, names_alias, names_item, params_of, scope_of, types_scope, variant_arity, Signature, at_args, ctor_item, ctor_signature, ctor_type, ctor_type_by, fn_signature, own_adt, signature_by, signature_of, taken_types, type_args, variant_types, StandsIn, filled, filled_by, filled_type, in_part, is_itself, lowered, type_parts, written_type, RawAdt, RawAdtKind, RawArm, RawAssocType, RawBody, RawCtor, RawExpr, RawFacts, RawField, RawFn, RawGoal, RawImpl, RawLang, RawLiteral, RawPat, RawPath, RawStmt, RawTrait, RawTraitRef, RawType, RawVariant, Schedule}
+unfoldable pub use Rattle.infer_ctx.specs.Words.{filled_within}
+pub use Rattle.infer_ctx.specs.Words.{HasBody, IsWalkable, body_id_of, body_of, inputs_by, inputs_of, output_by, return_type, is_carried_body, is_carried_expr, is_carried_literal, is_carried_stmt, is_empty, is_in_module, AreCarriedTypes, IsCarriedType, carried_adt, carried_bool, carried_char, carried_error, carried_integer, carried_param, carried_tuple, is_carried_type, same_carried, AdtFits, GoalFits, ImplFits, ImplTraitFits, TraitFits, TypeFits, AllHold, BreaksAt, constructor_exists, constructor_pattern_exists, function_exists, tuple_struct_exists, filled_agree, filled_folded, GoalExists, GoalsExist, ImplIdsExist, TraitIdsExist, TraitRefExists, BodyIdsExist, ChildrenBefore, adt_variants, FirstBroken, IsLawful, PassesAll, Test, says, tests, adt_ids, body_ids, fn_ids, fns_fit, holes_fit, type_ids, variant_ids, masked_before, IsLiteral, filled_parts, most_above, In, definition_input_has_no_hole, field_has_no_hole, in_first, in_flat, in_last, output_has_no_hole, type_there, HasPlainBody, HasSizedParams, IsPlainAdt, IsPlainBody, IsPlainBodyOf, IsPlainExpr, IsPlainKind, IsPlainPath, IsPlainSignature, IsPlainStmt, IsPlainType, adt_fields, fields_by, is_item, is_plain_adt_kind, is_tuple_ctor, is_tuple_variant, is_unit_or_tuple, IsPlainIn, plain_adt, plain_bool, plain_char, plain_integer, plain_param, plain_tuple, HoldsProjection, IsNoProjection, SignatureNamesNone, is_one, are_direct_structs, is_below, is_direct_struct, is_direct_variant, is_number, is_one_sized_lang, is_sized_of, is_sized_pred, is_sized_trait, only_param, param_number, sized_param, HasNoHole, params_in, wrongs_in, abstract_uses, fn_uses, goal_uses, goals_uses, impl_uses, item_uses, trait_ref_uses, variant_uses, FitsUnder, direct_inputs_fit, direct_output_fits, fields_fit, fits_direct, fits_more, lets_fit, FactsList, Law}
+pub use Rattle.infer_ctx.specs.Words.{AllOf, Substitution, completion, FellBack, IsLawfulState, are_of_leaf, are_of_pair, are_of_parts, HasMadeIf, BindsOnly, IsEnd, IsMadeOf, IsTypeMark, NoAlias, Shape, TermRole, apply_resolved_term, binds_only_unified, made_of_resolved, made_of_resolved_term, made_of_within, part, refused_apart, rest, unified_makes_same, whole, width, width_apply, IsOpenOrKnown, resolution, resolution_term, resolution_terms, AreOf, Respects, Solves, Triangular, resolved, AllUnknown, AreRefused, AreUnified, AreUnifiedIf, CanBeEqual, Grew, HolesAreOf, IsBack, IsFront, IsUnknownPair, Meets, State, TakesFirstKnown, TakesKnown, bindings, hole_count, is_type_hole, new_state, resolved_term, resolved_type, with_new_hole, with_waiting, hole_eq_same, hole_eq_true, GoesBack, IsResolvedOr, Waiting, is_taken, waiting, with_pair, NoUnifier, WaitingPair}
+pub use Rattle.infer_ctx.specs.Words.{HasSource, Proves, YesAt, alias_first, alias_next, answers, nothing, Asked, Each, IsKnown, IsKnownPart, Kind, OneIf, Rule, SomeOf, System, Verdicts, implements, is_among, is_trait, key, only, projects, Aliases, Fill, IsRead, IsReadLeaf, ReadsAs, role, AreArgs, IsLast, IsNth, SizedYes, field_tail, IsConcrete, IsTraitKind}
+pub use Rattle.infer_ctx.specs.Words.{term_is, term_of}
+pub use Rattle.infer_ctx.specs.Words.{system, Answer}
+pub use Rattle.infer_ctx.specs.Words.{args_at, goal_at, holes, instance, own_params, type_at, IsStated, IsSuper, preds_or_none, trait_holes, trait_preds, ItemSources, asked_goal, HasHolesBelow, assoc_rule, impl_args, impl_holes, impl_rules, rules_for, IsTypeRead, TypeReads, IsSystemOf, fact, last_field_of, last_of, sized_by, variant_of, Proof}
+pub use Rattle.infer_ctx.specs.Words.{GoalIsOf, HasHeadsIfConcrete, RuleHasHeadsOf, SystemHasHeadsOf}
+pub use Rattle.infer_ctx.specs.Words.{IsAsked, asked_by, opens, registered, Obligation, GoalTree}
+pub use Rattle.infer_ctx.specs.Words.{all_grows, kept_grows, AreCounted, AreKept, AreSteps, HasAllOpen, IsStep, NoneLeft, Went, sourced, IsUnused, StaysButHoles, stays_itself, stays_twice, stays_with, Obligations, GoalTable}
+pub use Rattle.infer_ctx.specs.Words.{alias_goals, alias_goals_by, alias_goals_from, fn_alias_goals, path_alias_goals, variant_alias_goals, AllSeen, AllTypes, IsBinder, IsItemOfPat, IsOfBody, IsVariantPat, OnlyBindersHaveModes, OnlyCtorPatsHaveItems, AsksOf, Demand, HasNoComplaint, IsDerivation, AreGeneralTypes, GivesPlain, HasGeneral, IsGeneralOf, IsGeneralType, closed_by, general_adt, general_bool, general_char, general_hole, general_integer, general_integer_hole, general_item, general_param, general_tuple, types_under, HasHead, HeadOf, Outermost, of_ctor, of_function, other, outermost_step, Incoming, IsInput, AsksOfAlternative, IsBefore, LetRule, StmtRule, StmtsRule, TailRule, ArgsRule, CallsNonGeneric, IsCallee, IsPathToItem, callable_step, is_callable, IsCtorAt, IsCtorPath, IsVariantAt, adt_at, fields_at, IfRule, IsLiteralType, IsOwnType, ArmPatterns, ArmsRule, GuardRule, MatchRule, arm_exprs, PathRule, AllAt, IsMade, IsMisfit, GoalsHold, HasGap, HasNoneLeft, NeedsHold, callee_needs, expr_preds, item_args, needed_goals, needs_at, needs_of, needs_preds, pat_needs_at, pat_needs_of, path_preds, scope_item, variant_preds, with_goals, AreLetTypes, AreOwnTypes, CanStand, EachIsKnownAs, HoldsPlaceholder, IsAliasKnownAs, IsInHand, IsKnownAs, aliases_of, fn_aliases_by, is_read_head, written_inputs, IsItemOf, IsPatOf, PatsAtFields, AllPatsAt, AreRecorded, Given, IsAsKnown, IsAt, IsAtMaybeOrMismatch, IsAtOrMismatch, IsPlaceholder, MisfitsAs, OnlyPlaceholdersHaveTypes, PatIsAtOrMismatch, StandsAt, declared, hole_type, let_types, at_or_mismatch, at_types, complaint_count, report, ObeysExpression, ObeysOrMismatch, PatRule, AnyMismatch, At, BindingTy, ExprVariant, HasDiagnostic, HasMismatch, HasMode, HasPatDiagnostic, HasPatMismatch, HasTy, MismatchAt, PatItem, PatTy, PlaceholderTy, WasSeen, mismatch, recorded, IsTrueDiagnostic, IsTruePatDiagnostic, IsTruePatMismatch, SaysItsType, IsTrueSeen, IsTableOf, given, given_by, SeenFit, TypesFit, arg_has_unknown, has_unknown, arg_has_unknown_type, has_unknown_adt, has_unknown_associated, has_unknown_bool, has_unknown_char, has_unknown_fn_def, has_unknown_int, has_unknown_int_var, has_unknown_param, has_unknown_tuple, has_unknown_uint, has_unknown_var, AllWrittenAreListed, InferenceDiagnostic, Gap, BindingMode, General, InferenceResult, Seen, TypeMismatch}
+pub use Rattle.infer_ctx.specs.Own.{AllAreAsked, AreGoalsOf, AreSourcesIn, IsTold, TreeHasHeadsOf, asked_by_node, asked_where, IsCallableItem, IsSigIfItem, IsSigOf, IsSigOfItem, ItemsAreCallable, field_at, AskedIsDecided, AskedIsKept, Closes, IsAwaited, IsClosing, IsDecided, IsSound, asked_or_noted, closed_mismatch, closed_mismatches, closed_table, closed_types, entry_of, expected_under, found_under, same_types, unless_same, IsCarriedExpectation, IsLess, bound_by, component, element_type, empty_context, expected_type, given_of, known_hole, known_or, known_step, of_alternatives, of_arms, schedule_of, scope_in, waiting_at, with_expr_ty, with_general, with_goal_table, with_pat_diagnostic, with_pat_mismatch, with_placeholder_ty, with_seen, with_table, AllFine, AreFinePairs, Every, HasFineHeads, IsCarriedIn, IsFine, IsFineExpectation, is_fine_head, item_params, Found, RecordsVariants, nothing_found, ArePartTypes, Before, BodyDone, CoerceDone, Does, Follows, IsUnasked, IsWalking, KindDone, OnlyBinds, OwnDone, Within, Tells, TellsBinding, TellsBound, TellsLet, TellsRecorded, CoerceWalked, ComesTo, IsInside, IsItem, IsPlaced, IsReady, IsVariant, KindWalked, LieAhead, OwnWalked, WrittenExist, Debt, Extends, IsCarriedTable, IsFree, IsSeenAs, IsWalked, Nothing, Owed, OwedAmong, OwedByAlternatives, PaidBy, Walks, expr_end, expr_start, pat_end, pat_start, expr_variant, noted, pat_variant, put}
+pub use Rattle.infer_ctx.specs.Context.{entered}
+pub use Rattle.infer_ctx.specs.Found.{with_diagnostic, with_mismatch, with_pat_item, with_pat_ty}
+pub use Rattle.infer_ctx.specs.declared.context.InferenceContext.{InferenceContext}
+pub use Rattle.infer_ctx.specs.declared.expectation.Expectation.{Expectation}
+pub use Rattle.infer_ctx.specs.declared.given.CallableSig.{CallableSig}

@@ -1,0 +1,2 @@
+-- What this crate takes from those below it.
+pub use Rattle.infer_table.specs.Own.{Grew, HolesAreOf}
