@@ -18,6 +18,7 @@ pub mod FitTypes
 pub mod FitEntries
 pub mod FitParts
 pub mod FitWritten
+pub mod ProofsFit
 pub mod Leaving
 pub mod Writing
 pub mod Holding

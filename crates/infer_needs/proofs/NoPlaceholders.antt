@@ -179,7 +179,7 @@ module _ (raw : RawFacts) (law : IsLawful raw) where
   aliases_exist : AllHold (AliasIdsExist raw) raw.aliases
   aliases_exist = law.all.1.1.1.1.1.1.1.1.1.1.1.1.1.1.1.1.1.1.0
 
-  impls_exist : AllHold (λ i p. ImplIdsExist raw p) raw.impls
+  pub impls_exist : AllHold (λ i p. ImplIdsExist raw p) raw.impls
   impls_exist = law.all.1.1.1.1.1.1.1.1.1.1.1.1.1.1.1.1.1.1.1.0
 
   pub trait_has_none : (t : TraitId) → GoalsHaveNoHole raw (trait_preds raw t)

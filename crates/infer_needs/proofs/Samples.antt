@@ -19,3 +19,4 @@ pub mod Entries
 pub mod BoolArgs
 pub mod Clashing
 pub mod Clashes
+pub mod ExtraProofs

@@ -89,10 +89,10 @@ IsNoted f n e a ps js ks gs hs =
     ((ks ≡ js) × (hs ≡ gs) × ((b : Asked) → ReadsAbout f n a b → ⊥))
     ⊎ ((s : SaysAlias f n a ps) × IsListedNow e (ty.Projection s.alias s.args) s.type js ks gs hs)
 
--- so it is once these proofs are added; of a goal about a trait each is one that another asks for
-pub record Notes (raw : RawFacts) (f : System) (e : ExprOrPatId) (a : Asked) (ps qs : List Proof) (js ks : List (Ty × Ty)) (gs hs : List Gap) : Type 0 where
+-- so it is once these proofs are added; each is one that another asks for, or of what the goal reads as
+pub record Notes (raw : RawFacts) (item : GenericDefId) (f : System) (e : ExprOrPatId) (a : Asked) (ps qs : List Proof) (js ks : List (Ty × Ty)) (gs hs : List Gap) : Type 0 where
   pub adds : AddsProofs raw f ps qs
-  pub roots : AddsRootsOf [] ps qs
+  pub roots : AddsRootsOf raw item f (a ∷ []) ps qs
   pub noted : IsNoted f raw.limits.goal_depth e a qs js ks gs hs
 
 -- ---- one goal

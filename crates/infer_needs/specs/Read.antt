@@ -1,6 +1,6 @@
 -- What goals read as.
 use Rattle.std.specs.Prelude.{ℕ, List, [], ◌∷◌, Option, Some, None}
-use Rattle.infer_needs.specs.Words.{Goal, RawFacts, Asked, System, Proof, asked_goal, AddsProofs, IsWritten, GoalReads}
+use Rattle.infer_needs.specs.Words.{Goal, RawFacts, Asked, System, Proof, asked_goal, AddsProofs, IsWritten, GoalReads, GenericDefId}
 use Rattle.infer_needs.specs.Judged.{HasProofOf}
 use Rattle.infer_needs.specs.Told.{AddsRootsOf}
 
@@ -14,8 +14,8 @@ abbrev pub IsWrittenIf : Option Goal → Type 0
 IsWrittenIf (Some b) = IsWritten (asked_goal b).parts
 IsWrittenIf None = Unit {0}
 
--- proofs come behind, and one of them all is of the goal
-pub record AddsProofOf (raw : RawFacts) (f : System) (a : Asked) (ps qs : List Proof) : Type 0 where
+-- proofs come behind, and one of them all is of what the goal reads as
+pub record AddsProofOf (raw : RawFacts) (item : GenericDefId) (f : System) (a b : Asked) (ps qs : List Proof) : Type 0 where
   pub adds : AddsProofs raw f ps qs
-  pub roots : AddsRootsOf (a ∷ []) ps qs
-  pub has : HasProofOf qs a
+  pub roots : AddsRootsOf raw item f (a ∷ []) ps qs
+  pub has : HasProofOf qs b

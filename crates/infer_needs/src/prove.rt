@@ -3,7 +3,7 @@
 ghost use Rattle.std.specs.Prelude.{◌≡◌, ◌++◌, [], ◌∷◌, length, map, Some, IfOk, OnOk};
 ghost use Rattle.hir_types.specs.declared.ids.ExprOrPatId.TheVariants as node;
 ghost use Rattle.infer_needs.specs.Words.{RawBody, body_of, system, asked_goal, IsAnswer, with_goals, scope_item, GoalsHold, HasNoneLeft, needs_of, pat_needs_at, AllWrittenAreListed, AllTypes, recorded, IsTableOf, given};
-ghost use Rattle.infer_needs.specs.Own.{IsFinalType, EntriesFit, AreAllListed, AllFitIn, IsProvable, AreProvable, CanAllBeProved, CanPatsBeProved, FitOrAreSaid, IsSaidUnlessMay, IsJudged, AreJudged, AreAllJudged, ArePatsJudged, ListsAnswers, first_needs, first_pat_needs, AreAllAnswered, AddsRootsOf, RootsAreNeeded};
+ghost use Rattle.infer_needs.specs.Own.{IsFinalType, EntriesFit, AreAllListed, AllFitIn, IsProvable, AreProvable, CanAllBeProved, CanPatsBeProved, FitOrAreSaid, IsSaidUnlessMay, IsJudged, AreJudged, AreAllJudged, ArePatsJudged, ListsAnswers, first_needs, first_pat_needs, AreAllAnswered, AddsRootsOf, RootsAreNeeded, ProofsFit};
 
 use crate::found::Found;
 use crate::left::look_at_table;
@@ -83,7 +83,7 @@ fn prove_need(
     requires { IsProvable (asked_goal goal) }
     ensures judged { OnOk result (IsJudged sources.now.facts (system sources.now.sources) node goal proofs.old.items proofs.new.items found.old found.new gaps.old gaps.new) }
     ensures told { OnOk result (ListsAnswers (system sources.now.sources) sources.now.facts.limits.goal_depth (asked_goal goal ∷ []) told.old.items told.new.items) }
-    ensures roots { OnOk result (AddsRootsOf (asked_goal goal ∷ []) proofs.old.items proofs.new.items) }
+    ensures roots { OnOk result (AddsRootsOf sources.now.facts sources.now.item (system sources.now.sources) (asked_goal goal ∷ []) proofs.old.items proofs.new.items) }
 {
     match evaluate(alloc, sources, &goal, told)? {
         Answer::Yes => {
@@ -112,7 +112,7 @@ fn prove_each(
     requires { AreProvable (map asked_goal needed.items) }
     ensures judged { IfOk result (λ gaps. AreJudged sources.now.facts (system sources.now.sources) node (map asked_goal needed.items) proofs.old.items proofs.new.items found.old found.new gaps) }
     ensures told { OnOk result (ListsAnswers (system sources.now.sources) sources.now.facts.limits.goal_depth (map asked_goal needed.items) told.old.items told.new.items) }
-    ensures roots { OnOk result (AddsRootsOf (map asked_goal needed.items) proofs.old.items proofs.new.items) }
+    ensures roots { OnOk result (AddsRootsOf sources.now.facts sources.now.item (system sources.now.sources) (map asked_goal needed.items) proofs.old.items proofs.new.items) }
 {
     let mut gaps = List::new(alloc);
     for goal in needed {
@@ -135,7 +135,7 @@ fn prove_at(
     requires { AreProvable (needs_of sources.now.facts (Some expr.now) (recorded table.now.type_of_expr at)) }
     ensures judged { IfOk result (λ gaps. AreJudged sources.now.facts (system sources.now.sources) (node.ExprId (record { 0 = at })) (needs_of sources.now.facts (Some expr.now) (recorded table.now.type_of_expr at)) proofs.old.items proofs.new.items found.old found.new gaps) }
     ensures told { OnOk result (ListsAnswers (system sources.now.sources) sources.now.facts.limits.goal_depth (needs_of sources.now.facts (Some expr.now) (recorded table.now.type_of_expr at)) told.old.items told.new.items) }
-    ensures roots { OnOk result (AddsRootsOf (needs_of sources.now.facts (Some expr.now) (recorded table.now.type_of_expr at)) proofs.old.items proofs.new.items) }
+    ensures roots { OnOk result (AddsRootsOf sources.now.facts sources.now.item (system sources.now.sources) (needs_of sources.now.facts (Some expr.now) (recorded table.now.type_of_expr at)) proofs.old.items proofs.new.items) }
 {
     let node = ExprOrPatId::ExprId(expr_id(at)?);
     match table.type_of_expr_or_pat(node) {
@@ -161,7 +161,7 @@ fn prove_pat(
     requires { AreProvable (pat_needs_at sources.now.facts table.now at) }
     ensures judged { IfOk result (λ gaps. AreJudged sources.now.facts (system sources.now.sources) (node.PatId (record { 0 = at })) (pat_needs_at sources.now.facts table.now at) proofs.old.items proofs.new.items found.old found.new gaps) }
     ensures told { OnOk result (ListsAnswers (system sources.now.sources) sources.now.facts.limits.goal_depth (pat_needs_at sources.now.facts table.now at) told.old.items told.new.items) }
-    ensures roots { OnOk result (AddsRootsOf (pat_needs_at sources.now.facts table.now at) proofs.old.items proofs.new.items) }
+    ensures roots { OnOk result (AddsRootsOf sources.now.facts sources.now.item (system sources.now.sources) (pat_needs_at sources.now.facts table.now at) proofs.old.items proofs.new.items) }
 {
     let pat = pat_id(at)?;
     match table.item_of_pat(pat) {
@@ -188,7 +188,7 @@ fn prove_pats(
     requires { CanPatsBeProved sources.now.facts table.now }
     ensures judged { IfOk result (λ gaps. ArePatsJudged sources.now.facts (system sources.now.sources) table.now (length body.now.pats) proofs.old.items proofs.new.items found.old found.new gaps) }
     ensures told { OnOk result (ListsAnswers (system sources.now.sources) sources.now.facts.limits.goal_depth (first_pat_needs sources.now.facts table.now (length body.now.pats)) told.old.items told.new.items) }
-    ensures roots { OnOk result (AddsRootsOf (first_pat_needs sources.now.facts table.now (length body.now.pats)) proofs.old.items proofs.new.items) }
+    ensures roots { OnOk result (AddsRootsOf sources.now.facts sources.now.item (system sources.now.sources) (first_pat_needs sources.now.facts table.now (length body.now.pats)) proofs.old.items proofs.new.items) }
 {
     let mut gaps = List::new(alloc);
     for at in 0..body.pats.len() {
@@ -217,7 +217,7 @@ fn prove_exprs(
     ensures fit { IfOk result (λ made. FitOrAreSaid sources.now.facts sources.now.item (system sources.now.sources) (first_needs sources.now.facts body.now table.now (length body.now.exprs)) made.1) }
     ensures written { IfOk result (λ made. AreAllListed sources.now.facts def body.now table.now (system sources.now.sources) made.1) }
     ensures told { OnOk result (ListsAnswers (system sources.now.sources) sources.now.facts.limits.goal_depth (first_needs sources.now.facts body.now table.now (length body.now.exprs)) told.old.items told.new.items) }
-    ensures roots { IfOk result (λ made. AddsRootsOf (first_needs sources.now.facts body.now table.now (length body.now.exprs)) [] made.0.items) }
+    ensures roots { IfOk result (λ made. AddsRootsOf sources.now.facts sources.now.item (system sources.now.sources) (first_needs sources.now.facts body.now table.now (length body.now.exprs)) [] made.0.items) }
 {
     let mut proofs = Vec::new(alloc);
     let mut found = Found::new(alloc);
@@ -246,8 +246,8 @@ fn prove_exprs(
 /// predicates of each item, and then of the patterns: these are given back, each with its answer. What associated
 /// types were found to be is listed, each once; where one is another type at a node, this is said there. In no type
 /// of the table is one left that could be read, unless what it is is listed; and so is what each is that the
-/// definition, its `let`s and those goals are written with. What is listed, and what is said, names what the facts have,
-/// with as many arguments as it takes, and has no holes. Each listed proof of a goal about a trait is one that another
+/// definition, its `let`s and those goals are written with. What is listed, what is said, and what each proof is of and at
+/// which arguments, names what the facts have, with as many arguments as it takes, and has no holes. Each listed proof of a goal about a trait is one that another
 /// asks for, or of a goal that a node needs. Nothing else of the table changes. The one error is want of memory.
 pub fn prove_needs(
     alloc: Global,
@@ -262,6 +262,7 @@ pub fn prove_needs(
     ensures written { OnOk result ((b : RawBody) → body_of facts.now def ≡ Some b → AllWrittenAreListed def (given facts.now def b) table.new) }
     ensures roots { OnOk result ((b : RawBody) → body_of facts.now def ≡ Some b → RootsAreNeeded (given facts.now def b) table.new) }
     ensures fit { OnOk result ((b : RawBody) → body_of facts.now def ≡ Some b → EntriesFit (given facts.now def b) table.new) }
+    ensures proofs { OnOk result ((b : RawBody) → body_of facts.now def ≡ Some b → ProofsFit def (given facts.now def b) table.new) }
     ensures told { IfOk result (λ told. (b : RawBody) → body_of facts.now def ≡ Some b → AreAllAnswered def (given facts.now def b) table.new told.items) }
 {
     let Some(id) = facts.body_id(def) else {

@@ -182,5 +182,12 @@ settles_needs g old mid selected new reads selects settles = record {
   reads = reads;
   selected = selected;
   selects = selects;
-  settles = record { binds = binds_twice g old selected new (binds_twice g old mid selected reads.binds selects.binds) settles.binds; decided = settles.decided };
+  settles = settles;
+}
+
+-- from before what was read on, nothing is left open that is asked
+pub all_settled : (g : Given) (old new : InferenceContext) → SettlesNeeds g old new → Settles g old new
+all_settled g old new h = record {
+  binds = binds_twice g old h.selected new (binds_twice g old h.read h.selected h.reads.binds h.selects.binds) h.settles.binds;
+  decided = h.settles.decided;
 }

@@ -105,13 +105,13 @@ pub record ReadsOn (g : Given) (old new : InferenceContext) : Type 0 where
   pub binds : OnlyBinds g old new
   pub ends : ReadsNoMore g new ⊎ ReadsTimes g g.scope.facts.limits.goal_depth old new
 
--- what all nodes need was read, goals were selected, and nothing that is asked of an expression is left open
+-- what all nodes need was read, goals were selected with what that said, and then nothing that is asked of an expression was left open
 pub record SettlesNeeds (g : Given) (old new : InferenceContext) : Type 0 where
   pub read : InferenceContext
   pub reads : ReadsOn g old read
   pub selected : InferenceContext
   pub selects : SelectsInWalk g read selected
-  pub settles : Settles g old new
+  pub settles : Settles g selected new
 
 -- so the walk ended
 pub record EndsSettled (g : Given) (c : InferenceContext) : Type 0 where

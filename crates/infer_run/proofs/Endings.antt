@@ -16,8 +16,9 @@ use Rattle.infer_text.specs.declared.fault.ReadError.TheVariants as error
 use Rattle.infer_run.specs.declared.running.Ran.{Ran}
 use Rattle.infer_run.specs.Command.{IsCommand}
 use Rattle.infer_text.specs.Facts.{IsRead, Reads}
-use Rattle.infer_run.specs.Outcome.{Ends, TookAll, HasFacts, HasGoals, IsReadThrough, HasWritten, HasAskedProofs, HasFitEntries, IsSelectedTable, Reported, SourceFailed, SinkFailed, IsNoJson, IsMisshapen, BreaksLaw, HasNoBody, IsTooLong, Outcome, IsInferred, AppendsFront, has_facts, has_table, has_fault}
+use Rattle.infer_run.specs.Outcome.{Ends, TookAll, HasFacts, HasGoals, IsReadThrough, HasWritten, HasAskedProofs, HasFitEntries, IsSelectedTable, Reported, SourceFailed, SinkFailed, IsNoJson, IsMisshapen, BreaksLaw, HasNoBody, IsTooLong, Outcome, IsInferred, AppendsFront, has_facts, has_table, has_fault, HasFitProofs}
 use Rattle.infer_run.specs.Answer.{Answered, is_answer, refusal}
+use Rattle.infer_expr.specs.Below.{NoneStays}
 
 -- what holds at a status
 abbrev pub AtStatus : List (List ℕ) → Ends → Ran → ℕ → Type 0
@@ -145,12 +146,12 @@ status_zero n le = grind (arith, nat_tests)
 status_one : (n : ℕ) → 0 < n → (if nat_lt 0 n then 1 else 0) ≡ suc zero
 status_one n lt = grind (arith, nat_tests)
 
-module _ (def : DefWithBodyId) (raw : RawFacts) (table : InferenceResult) (has_body : HasBody raw def) (typed : IsTableOf raw def table) (general : HasGeneral raw def table) (goals : HasGoals raw def table) (left : IsReadThrough raw def table) (written : HasWritten raw def table) (roots : HasAskedProofs raw def table) (fit : HasFitEntries raw def table) (selected : IsSelectedTable raw def table) (old new : Option (List ℕ)) (before now : ℕ) where
+module _ (def : DefWithBodyId) (raw : RawFacts) (table : InferenceResult) (has_body : HasBody raw def) (typed : IsTableOf raw def table) (general : HasGeneral raw def table) (stays : NoneStays raw def table) (goals : HasGoals raw def table) (left : IsReadThrough raw def table) (written : HasWritten raw def table) (roots : HasAskedProofs raw def table) (fit : HasFitEntries raw def table) (proofs : HasFitProofs raw def table) (selected : IsSelectedTable raw def table) (old new : Option (List ℕ)) (before now : ℕ) where
   abbrev pub ran_with : ℕ → Ran
   ran_with n = record { status = n; facts = Some raw; table = Some table; fault = None }
 
   abbrev inferred : (n : ℕ) → IsInferred def raw (ran_with n)
-  inferred n = record { has_body = has_body; table = table; typed = typed; general = general; goals = goals; left = left; written = written; roots = roots; fit = fit; selected = selected; table_is = refl }
+  inferred n = record { has_body = has_body; table = table; typed = typed; general = general; stays = stays; goals = goals; left = left; written = written; roots = roots; fit = fit; proofs = proofs; selected = selected; table_is = refl }
 
   pub by_fault_of_sink : Rose before now → AppendsFront old new (report def raw table) → Answered def raw old new before now (ran_with 4)
   by_fault_of_sink rose wrote =

@@ -12,7 +12,7 @@ use Rattle.infer_result.specs.Typed.{IsTableOf, given}
 use Rattle.infer_result.specs.General.{HasGeneral}
 use Rattle.infer_result.specs.Needs.{GoalsHold, HasNoneLeft}
 use Rattle.infer_result.specs.WrittenAliases.{AllWrittenAreListed}
-use Rattle.infer_expr.specs.Below.{ComesOfSelection, EntriesFit, RootsAreNeeded}
+use Rattle.infer_expr.specs.Below.{ComesOfSelection, EntriesFit, RootsAreNeeded, NoneStays, ProofsFit}
 use Rattle.infer_result.specs.Report.{report, complaint_count}
 use Rattle.infer_text.specs.declared.fault.ReadError.TheVariants as error
 use Rattle.infer_run.specs.declared.running.Ran.{Ran}
@@ -98,6 +98,10 @@ HasAskedProofs raw def table = (b : RawBody) → body_of raw def ≡ Some b → 
 abbrev pub HasFitEntries : RawFacts → DefWithBodyId → InferenceResult → Type 0
 HasFitEntries raw def table = (b : RawBody) → body_of raw def ≡ Some b → EntriesFit (given raw def b) table
 
+-- so does what each proof is of, and what stands for the parameters of its impl
+abbrev pub HasFitProofs : RawFacts → DefWithBodyId → InferenceResult → Type 0
+HasFitProofs raw def table = (b : RawBody) → body_of raw def ≡ Some b → ProofsFit def (given raw def b) table
+
 -- what they need was selected before its open holes fell back
 abbrev pub IsSelectedTable : RawFacts → DefWithBodyId → InferenceResult → Type 0
 IsSelectedTable raw def table = (b : RawBody) → body_of raw def ≡ Some b → ComesOfSelection raw def b table
@@ -109,11 +113,13 @@ pub record IsInferred (def : DefWithBodyId) (raw : RawFacts) (ran : Ran) : Type 
   pub table : InferenceResult
   pub typed : IsTableOf raw def table
   pub general : HasGeneral raw def table
+  pub stays : NoneStays raw def table
   pub goals : HasGoals raw def table
   pub left : IsReadThrough raw def table
   pub written : HasWritten raw def table
   pub roots : HasAskedProofs raw def table
   pub fit : HasFitEntries raw def table
+  pub proofs : HasFitProofs raw def table
   pub selected : IsSelectedTable raw def table
   pub table_is : ran.table ≡ Some table
 

@@ -6,9 +6,10 @@ ghost use Rattle.hir_facts.specs.Bodies.{HasBody};
 ghost use Rattle.infer_result.specs.Typed.{IsTableOf};
 ghost use Rattle.infer_result.specs.General.{HasGeneral};
 ghost use Rattle.infer_run.specs.Causes.{Rose, HasCause};
-ghost use Rattle.infer_run.specs.Outcome.{AppendsFront, HasGoals, IsReadThrough, HasWritten, HasAskedProofs, HasFitEntries, IsSelectedTable, Outcome, between};
+ghost use Rattle.infer_run.specs.Outcome.{AppendsFront, HasGoals, IsReadThrough, HasWritten, HasAskedProofs, HasFitEntries, IsSelectedTable, Outcome, between, HasFitProofs};
 ghost use Rattle.infer_run.specs.Exactly.{Exactly};
 ghost use Rattle.infer_run.specs.Answer.{Answered, silence, refusal};
+ghost use Rattle.infer_expr.specs.Below.{NoneStays};
 
 use crate::ends::{Failed, Sink, Source};
 use crate::words::command;
@@ -135,11 +136,13 @@ fn report_on<K: Sink>(
     requires has_body { HasBody facts def }
     requires typed { IsTableOf facts def table }
     requires general { HasGeneral facts def table }
+    requires stays { NoneStays facts def table }
     requires goals { HasGoals facts def table }
     requires left { IsReadThrough facts def table }
     requires written { HasWritten facts def table }
     requires roots { HasAskedProofs facts def table }
     requires fit { HasFitEntries facts def table }
+    requires proofs { HasFitProofs facts def table }
     requires selected { IsSelectedTable facts def table }
     ensures { Answered def facts (K.written sink.old) (K.written sink.new) (K.faults sink.old) (K.faults sink.new) result }
 {

@@ -96,9 +96,12 @@ returns-clause-selected c b is =
       aliases = c.as_slice.result.now;
       lets = subst (AreLetTypes c.args.facts.now c.args.def c.body-body.result.now) (sym c.as_slice.ensures) c.in_ok-aliases.ensures;
       settled = c.infer_body.new.context;
+      facts = ap (λ (z : ItemSources). z.facts) c.in_ok-infer_body.ensures.sources ∙ c.in_ok-context.ensures.goals.facts;
+      item = ap (λ (z : ItemSources). z.item) c.in_ok-infer_body.ensures.sources ∙ (c.in_ok-context.ensures.goals.scope ∙ c.scope_item.ensures);
+      types = has_all_types _ _ c.infer_body.new.context (c.schedule.ensures.walkable _ c.body-body.ensures) c.in_ok-infer_body.ensures.done;
       read = c.in_ok-infer_body.ensures.read;
       walked = mid;
-      goals = keeps_goals raw d c.infer_body.new.context mid c.in_ok-keep_general.ensures;
+      kept = c.in_ok-keep_general.ensures;
       done = kept_done _ raw d c.infer_body.new.context mid c.in_ok-infer_body.ensures.done c.in_ok-keep_general.ensures;
       last = c.in_ok-settle_where_possible.ensures;
     })

@@ -27,7 +27,7 @@ returns-in_ok-gaps-in-Some c =
     record {
       judged = judged_at raw f (node.ExprId c.in_ok-expr_id.field-0) (node.ExprId (record { 0 = c.args.at })) gs (needs_of raw (Some x) (recorded types c.args.at)) c.args.proofs.now.items new.proofs.items c.args.found.now new.found c.in_ok-gaps-in-Some.gaps here all c.in_ok-gaps-in-Some.ensures.judged;
       told = subst (λ xs. ListsAnswers f raw.limits.goal_depth xs c.args.told.now.items new.told.items) all c.in_ok-gaps-in-Some.ensures.told;
-      roots = subst (λ xs. AddsRootsOf xs c.args.proofs.now.items new.proofs.items) all c.in_ok-gaps-in-Some.ensures.roots;
+      roots = subst (λ xs. AddsRootsOf c.args.sources.now.facts c.args.sources.now.item (system c.args.sources.now.sources) xs c.args.proofs.now.items new.proofs.items) all c.in_ok-gaps-in-Some.ensures.roots;
     }
 
 pub returns-in-None-clause-roots : goal.returns-in-None-clause-roots

@@ -47,7 +47,7 @@ loop-goal-preserved c =
           (judged_more raw f c.args.node (map asked_goal at.yielded) x c.args.proofs.now.items at.proofs.items new.proofs.items c.args.found.now at.found new.found at.gaps new.gaps at.invariant.judged done.judged);
       told = subst (λ xs. ListsAnswers f n xs c.args.told.now.items new.told.items) more
           (tells_both f n (map asked_goal at.yielded) (asked_goal x ∷ []) c.args.told.now.items at.told.items new.told.items at.invariant.told done.told);
-      roots = subst (λ xs. AddsRootsOf xs c.args.proofs.now.items new.proofs.items) more
+      roots = subst (λ xs. AddsRootsOf c.args.sources.now.facts c.args.sources.now.item (system c.args.sources.now.sources) xs c.args.proofs.now.items new.proofs.items) more
           (roots_both (map asked_goal at.yielded) (asked_goal x ∷ []) c.args.proofs.now.items at.proofs.items new.proofs.items at.invariant.roots done.roots);
     }
 
@@ -78,4 +78,4 @@ returns-clause-roots c =
     let whole = at.invariant.items ∙ c.into_iter-goal-iterator.ensures.into_iter_gives.0 in
     let empty : into_iter_items at.goal-iterator ≡ [] = nil_from_length _ (sym at.invariant.long ∙ c.in-None.ensures.steps.0) in
     let all = all_asked (map asked_goal gs) at.yielded (into_iter_items at.goal-iterator) gs refl whole empty in
-    subst (λ ys. AddsRootsOf ys c.args.proofs.now.items at.proofs.items) all at.invariant.roots
+    subst (λ ys. AddsRootsOf c.args.sources.now.facts c.args.sources.now.item (system c.args.sources.now.sources) ys c.args.proofs.now.items at.proofs.items) all at.invariant.roots

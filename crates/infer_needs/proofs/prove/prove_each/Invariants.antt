@@ -10,5 +10,5 @@ invariant-loop-goal l = record {
   long : into_iter_len l.goal-iterator ≡ length (into_iter_items l.goal-iterator);
   judged : AreJudged l.sources.facts (system l.sources.sources) l.node (map asked_goal l.yielded) l.fn.proofs.items l.proofs.items l.fn.found l.found l.gaps;
   told : ListsAnswers (system l.sources.sources) l.sources.facts.limits.goal_depth (map asked_goal l.yielded) l.fn.told.items l.told.items;
-  roots : AddsRootsOf (map asked_goal l.yielded) l.fn.proofs.items l.proofs.items;
+  roots : AddsRootsOf l.sources.facts l.sources.item (system l.sources.sources) (map asked_goal l.yielded) l.fn.proofs.items l.proofs.items;
 }

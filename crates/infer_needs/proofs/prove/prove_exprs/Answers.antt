@@ -29,7 +29,7 @@ loop-at-init c =
       fit = λ k x at. inl (left.adds.fit (subst (EntriesFitIn raw item) (sym c.new-found.ensures) (λ j y there. absurd (cc))) k x at);
       written = c.in_ok-look_at_written.ensures.none;
       told = tells_none f raw.limits.goal_depth c.args.told.now.items;
-      roots = subst (λ ps. AddsRootsOf [] ps new.proofs.items) c.new-proofs.ensures.items left.adds.roots;
+      roots = subst (λ ps. AddsRootsOf c.args.sources.now.facts c.args.sources.now.item (system c.args.sources.now.sources) [] ps new.proofs.items) c.new-proofs.ensures.items left.adds.roots;
     }
 
 pub prove_at-requires : goal.prove_at-requires
@@ -58,7 +58,7 @@ loop-at-preserved c =
       written = all_listed_later raw c.args.def b r f at.found new.found done.judged.lists.behind at.invariant.written;
       told = subst (λ xs. ListsAnswers f n xs c.args.told.now.items new.told.items) (first_more raw b r at.at)
           (tells_both f n (first_needs raw b r at.at) (needs_at raw b r at.at) c.args.told.now.items at.told.items new.told.items at.invariant.told (tells_here f n raw b r at.at x at.told.items new.told.items found done.told));
-      roots = subst (λ xs. AddsRootsOf xs [] new.proofs.items) (first_more raw b r at.at)
+      roots = subst (λ xs. AddsRootsOf c.args.sources.now.facts c.args.sources.now.item (system c.args.sources.now.sources) xs [] new.proofs.items) (first_more raw b r at.at)
           (roots_both (first_needs raw b r at.at) (needs_at raw b r at.at) [] at.proofs.items new.proofs.items at.invariant.roots (roots_here raw b r at.at x at.proofs.items new.proofs.items found done.roots));
     }
 
@@ -67,7 +67,7 @@ returns-clause-roots c =
     let at = c.loop-at in
     let long = ap length c.as_slice-expr-items.ensures in
     let end : at.at ≡ length c.args.body.now.exprs = omega (arith, long) in
-    subst (λ n. AddsRootsOf (first_needs c.args.sources.now.facts c.args.body.now c.args.table.now n) [] at.proofs.items) end at.invariant.roots
+    subst (λ n. AddsRootsOf c.args.sources.now.facts c.args.sources.now.item (system c.args.sources.now.sources) (first_needs c.args.sources.now.facts c.args.body.now c.args.table.now n) [] at.proofs.items) end at.invariant.roots
 
 pub returns-clause-fit : goal.returns-clause-fit
 returns-clause-fit c =

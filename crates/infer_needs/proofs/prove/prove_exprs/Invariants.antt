@@ -9,5 +9,5 @@ invariant-loop-at l = record {
   fit : FitOrAreSaid l.sources.facts l.sources.item (system l.sources.sources) (first_needs l.sources.facts l.body l.table l.at) l.found;
   written : AreAllListed l.sources.facts l.fn.def l.body l.table (system l.sources.sources) l.found;
   told : ListsAnswers (system l.sources.sources) l.sources.facts.limits.goal_depth (first_needs l.sources.facts l.body l.table l.at) l.fn.told.items l.told.items;
-  roots : AddsRootsOf (first_needs l.sources.facts l.body l.table l.at) [] l.proofs.items;
+  roots : AddsRootsOf l.sources.facts l.sources.item (system l.sources.sources) (first_needs l.sources.facts l.body l.table l.at) [] l.proofs.items;
 }

@@ -4,7 +4,7 @@ use Rattle.infer_needs.proofs.Adding.{adds_then, has_later}
 use Rattle.infer_needs.proofs.Telling.{tells_one}
 use Rattle.infer_needs.proofs.Judging.{refused, not_yes}
 use Rattle.infer_needs.proofs.ReadGoals.{proved_yes}
-use Rattle.infer_needs.proofs.Rooted.{roots_none, roots_proved, roots_aside}
+use Rattle.infer_needs.proofs.Rooted.{roots_none, roots_proved, roots_more}
 use Rattle.infer_needs.proofs.prove.prove_need.Goals as goal
 
 pub note-requires-clause-yes : goal.note-requires-clause-yes
@@ -42,8 +42,8 @@ returns-in_ok-note-in-Yes c =
         noted = notes.noted;
       });
       told = tells_one f raw.limits.goal_depth c.args.goal answer c.args.told.now.items c.evaluate.new.told.items told.answer told.told;
-      roots = roots_aside (a ∷ []) c.args.proofs.now.items first last
-          (roots_proved f c.raw.result.now.limits.goal_depth c.args.goal c.args.proofs.now.items first c.in_ok-prove_goal-in-Yes.field-0 proved.adds.behind proved.roots proved.proved) notes.roots;
+      roots = roots_more (a ∷ []) c.args.proofs.now.items first last
+          (roots_proved raw c.args.sources.now.item f c.raw.result.now.limits.goal_depth c.args.goal c.args.proofs.now.items first c.in_ok-prove_goal-in-Yes.field-0 proved.adds.behind proved.roots proved.proved) notes.roots;
     }
 
 pub returns-in_ok-complain-in-No : goal.returns-in_ok-complain-in-No

@@ -30,6 +30,6 @@ loop-at-preserved c =
           (pats_more raw f r at.at c.args.proofs.now.items at.proofs.items new.proofs.items c.args.found.now at.found new.found at.gaps c.in_ok-here.here at.invariant.judged done.judged);
       told = subst (λ xs. ListsAnswers f n xs c.args.told.now.items new.told.items) (first_pat_more raw r at.at)
           (tells_both f n (first_pat_needs raw r at.at) (pat_needs_at raw r at.at) c.args.told.now.items at.told.items new.told.items at.invariant.told done.told);
-      roots = subst (λ xs. AddsRootsOf xs c.args.proofs.now.items new.proofs.items) (first_pat_more raw r at.at)
+      roots = subst (λ xs. AddsRootsOf c.args.sources.now.facts c.args.sources.now.item (system c.args.sources.now.sources) xs c.args.proofs.now.items new.proofs.items) (first_pat_more raw r at.at)
           (roots_both (first_pat_needs raw r at.at) (pat_needs_at raw r at.at) c.args.proofs.now.items at.proofs.items new.proofs.items at.invariant.roots done.roots);
     }

@@ -6,5 +6,5 @@ abbrev pub invariant-loop-at : goal.invariant-loop-at
 invariant-loop-at l = record {
   judged : ArePatsJudged l.sources.facts (system l.sources.sources) l.table l.at l.fn.proofs.items l.proofs.items l.fn.found l.found l.gaps;
   told : ListsAnswers (system l.sources.sources) l.sources.facts.limits.goal_depth (first_pat_needs l.sources.facts l.table l.at) l.fn.told.items l.told.items;
-  roots : AddsRootsOf (first_pat_needs l.sources.facts l.table l.at) l.fn.proofs.items l.proofs.items;
+  roots : AddsRootsOf l.sources.facts l.sources.item (system l.sources.sources) (first_pat_needs l.sources.facts l.table l.at) l.fn.proofs.items l.proofs.items;
 }
