@@ -8,6 +8,7 @@ pub mod Rooted
 pub mod Coming
 pub mod Judging
 pub mod Opening
+pub mod ReadableGoals
 pub mod ReadsYes
 pub mod ReadGoals
 pub mod FitTerms

@@ -8,6 +8,7 @@ pub mod Needed
 pub mod Tables
 pub mod WrongTables
 pub mod Taking
+pub mod LeftUnknown
 pub mod TrueComplaint
 pub mod PatternNeeds
 pub mod Left

@@ -1,13 +1,9 @@
 -- What an associated type that a goal is about reads as, made equal with the goal's type.
-use Rattle.std.specs.Prelude.{◌≡◌, ℕ, zero, suc, List, length, map, slice_get, Option, Some, Bool}
-use Rattle.infer_obligations.specs.Words.{Goal, TypeAliasId, GenericArg, Scope, Ty, bindings, resolved_type, asked_goal, IsTypeRead, IsSystemOf, system, needs_at, pat_needs_at, IsInHand, Given, InferenceContext, OnlyBinds, SameOrDiffer, Settles, RawFacts}
+use Rattle.std.specs.Prelude.{◌≡◌, ℕ, zero, suc, List, length, map, slice_get, Option, Some}
+use Rattle.infer_obligations.specs.Words.{Goal, TypeAliasId, GenericArg, Ty, bindings, resolved_type, asked_goal, IsTypeRead, IsSystemOf, system, needs_at, pat_needs_at, IsInHand, Given, InferenceContext, OnlyBinds, SameOrDiffer, Settles}
 use Rattle.hir_types.specs.declared.goal.Goal.TheVariants as goal
 use Rattle.hir_types.specs.declared.ty.Ty.TheVariants as ty
 use Rattle.infer_obligations.specs.Selection.{SelectsInWalk}
-
--- the scope of a body, from its parts
-abbrev pub body_scope : RawFacts → ℕ → Bool → Scope
-body_scope raw n b = record { facts = raw; params = n; associated = b }
 
 -- the two were made equal, or differ, where both are such types; and nothing is recorded
 pub record UnifiesInHand (g : Given) (t u : Ty) (old new : InferenceContext) : Type 0 where

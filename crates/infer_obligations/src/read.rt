@@ -3,11 +3,10 @@ ghost use Rattle.std.specs.Prelude.{◌<◌, length, IfOk, OnOk};
 ghost use Rattle.infer_obligations.specs.Words.{given_of, scope_in, IsSound, IsOfBody, IsTold};
 ghost use Rattle.infer_obligations.specs.Own.{UnifiesInHand, ReadsAlias, ReadsGoal, ReadsEach, ReadsFor, SelectsAndReads, ReadsPath, ReadsPaths, ReadsPat, ReadsPats, ReadsAll, ReadsOn, SettlesNeeds};
 
-use crate::hand::is_in_hand;
 use crate::select::select_obligations_where_possible;
 use infer_coerce::hir_facts::{ExprId, ExprOrPatId, Goal, PatId, Ty};
 use infer_coerce::infer_ctx::{GivenBody, InferenceContext};
-use infer_coerce::infer_result::{expr_id, needed_goals, pat_id, pat_needs};
+use infer_coerce::infer_result::{expr_id, is_in_hand, needed_goals, pat_id, pat_needs};
 use infer_coerce::{unify, unify_unknown};
 use std::alloc::{AllocError, Global};
 

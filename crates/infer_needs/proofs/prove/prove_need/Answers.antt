@@ -1,5 +1,5 @@
 use Rattle.std.proofs.Common.{◌≡◌, ◌∙◌, [], ◌∷◌, inl, sym, ap, subst}
-use Rattle.infer_needs.specs.Words.{RawFacts, answers, system, asked_goal, IsAnswer}
+use Rattle.infer_needs.specs.Words.{RawFacts, answers, system, asked_goal, IsAnswer, scope_of}
 use Rattle.infer_needs.proofs.Adding.{adds_then, has_later}
 use Rattle.infer_needs.proofs.Telling.{tells_one}
 use Rattle.infer_needs.proofs.Judging.{refused, not_yes}
@@ -53,7 +53,7 @@ returns-in_ok-complain-in-No c =
     let answer = c.in_ok-evaluate.field-0 in
     let told = c.in_ok-evaluate.ensures in
     record {
-      judged = refused raw f c.args.node c.args.goal c.args.proofs.now.items c.args.found.now c.args.gaps.now c.complain.new.gaps (not_yes f raw.limits.goal_depth (asked_goal c.args.goal) answer c.in-No.is told.answer) c.in_ok-complain-in-No.ensures;
+      judged = refused raw (scope_of c.args.sources.now.facts c.args.def) f c.args.node c.args.goal c.args.proofs.now.items c.args.found.now c.args.gaps.now c.complain.new.gaps (not_yes f raw.limits.goal_depth (asked_goal c.args.goal) answer c.in-No.is told.answer) c.in_ok-complain-in-No.ensures;
       told = tells_one f raw.limits.goal_depth c.args.goal answer c.args.told.now.items c.evaluate.new.told.items told.answer told.told;
       roots = roots_none (asked_goal c.args.goal ∷ []) c.args.proofs.now.items;
     }

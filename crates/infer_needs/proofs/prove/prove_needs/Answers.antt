@@ -1,6 +1,6 @@
 use Rattle.std.proofs.Common.{◌≡◌, ◌++◌, [], List, length, sym, ap, ◌∙◌, subst}
 use Rattle.std.specs.Prelude.{Some}
-use Rattle.infer_needs.specs.Words.{Goal, DefWithBodyId, Ty, RawBody, RawFacts, Proof, ItemSources, Gap, InferenceResult, System, Answer, system, IsSystemOf, with_goals, scope_item, GoalsHold, HasNoneLeft, needs_of, pat_needs_at, AllTypes, recorded, given, AllWrittenAreListed}
+use Rattle.infer_needs.specs.Words.{Goal, DefWithBodyId, Ty, RawBody, RawFacts, Proof, ItemSources, Gap, InferenceResult, System, Answer, system, IsSystemOf, with_goals, scope_item, GoalsHold, HasNoneLeft, needs_of, pat_needs_at, AllTypes, recorded, given, AllWrittenAreListed, scope_of}
 use Rattle.infer_needs.specs.Own.{AreProvable, AreAllJudged, ArePatsJudged, FitOrAreSaid, IsFinalType, EntriesFit, AreAllListed, AllFitIn, first_needs, first_pat_needs, all_needs, AreAnswered, AddsRootsOf, RootsAreNeeded, RootsAreTold, ProofsFit}
 use Rattle.infer_needs.proofs.Telling.{tells_both, needs_stay}
 use Rattle.infer_needs.proofs.Rooted.{roots_both, roots_needed, roots_told}
@@ -54,22 +54,22 @@ prove_pats-requires c n =
 -- the sources and what was judged, as the facts, the item and the body say
 record Judged (raw : RawFacts) (d : DefWithBodyId) (b : RawBody) (f : System) (r : InferenceResult) (ps qs : List Proof) (js ks : List (Ty × Ty)) (gss hss : List (List Gap)) : Type 0 where
   of_item : IsSystemOf raw (scope_item raw d) f
-  exprs : AreAllJudged raw f b r (length b.exprs) ps js gss
-  pats : ArePatsJudged raw f r (length b.pats) ps qs js ks hss
+  exprs : AreAllJudged raw (scope_of raw d) f b r (length b.exprs) ps js gss
+  pats : ArePatsJudged raw (scope_of raw d) f r (length b.pats) ps qs js ks hss
 
 judged_of : (raw : RawFacts) (d : DefWithBodyId) (r : InferenceResult) (made : ItemSources) → made.facts ≡ raw → made.item ≡ scope_item raw d → IsSystemOf made.facts made.item (system made.sources)
     → (body b : RawBody) → body ≡ b → (ps qs : List Proof) (js ks found : List (Ty × Ty)) (gss hss : List (List Gap)) → ks ≡ found
-    → AreAllJudged made.facts (system made.sources) body r (length body.exprs) ps js gss → ArePatsJudged made.facts (system made.sources) r (length body.pats) ps qs js found hss
+    → AreAllJudged made.facts (scope_of made.facts d) (system made.sources) body r (length body.exprs) ps js gss → ArePatsJudged made.facts (scope_of made.facts d) (system made.sources) r (length body.pats) ps qs js found hss
     → Judged raw d b (system made.sources) r ps qs js ks gss hss
 judged_of raw d r made facts item of_item body b same ps qs js ks found gss hss list exprs pats =
     let f = system made.sources in
     record {
       of_item = subst (λ i. IsSystemOf raw i f) item (subst (λ z. IsSystemOf z made.item f) facts of_item);
-      exprs = subst (λ x. AreAllJudged raw f x r (length x.exprs) ps js gss) same (subst (λ z. AreAllJudged z f body r (length body.exprs) ps js gss) facts exprs);
+      exprs = subst (λ x. AreAllJudged raw (scope_of raw d) f x r (length x.exprs) ps js gss) same (subst (λ z. AreAllJudged z (scope_of z d) f body r (length body.exprs) ps js gss) facts exprs);
       pats =
-          subst (λ (x : RawBody). ArePatsJudged raw f r (length x.pats) ps qs js ks hss) same
-          (subst (λ z. ArePatsJudged z f r (length body.pats) ps qs js ks hss) facts
-          (subst (λ es. ArePatsJudged made.facts f r (length body.pats) ps qs js es hss) (sym list) pats));
+          subst (λ (x : RawBody). ArePatsJudged raw (scope_of raw d) f r (length x.pats) ps qs js ks hss) same
+          (subst (λ z. ArePatsJudged z (scope_of z d) f r (length body.pats) ps qs js ks hss) facts
+          (subst (λ es. ArePatsJudged made.facts (scope_of made.facts d) f r (length body.pats) ps qs js es hss) (sym list) pats));
     }
 
 pub returns-clause-goals : goal.returns-clause-goals

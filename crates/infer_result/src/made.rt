@@ -1,14 +1,14 @@
 //! Whether a term is that of a type in scope, of which no part is an associated type that is still to be read, an item that can be called or
 //! `{unknown}`.
 ghost use Rattle.std.specs.Prelude.{◌≡◌, ◌↔◌, IsTrue};
-ghost use Rattle.infer_obligations.specs.Words.{alias_params, has_params, whole, part, rest, width, IsTypeMark, IsEnd, IsMadeOf, term_of, is_read_head};
-ghost use Rattle.infer_obligations.specs.Words.infer_table.Preserved.{IsHead};
-ghost use Rattle.infer_obligations.specs.Own.{body_scope};
+ghost use Rattle.infer_result.specs.Words.{alias_params, has_params, whole, part, rest, width, IsTypeMark, IsEnd, IsMadeOf, term_of};
+ghost use Rattle.infer_result.specs.Words.infer_table.Preserved.{IsHead};
+ghost use Rattle.infer_result.specs.Own.{is_read_head, body_scope};
 
+use goal_facts::goal_terms::Term;
+use goal_facts::hir_facts::RawFacts;
+use goal_facts::hir_raw::alias_params;
 use hir_types::{Head, TypeAliasId};
-use infer_coerce::goal_terms::Term;
-use infer_coerce::hir_facts::RawFacts;
-use infer_coerce::hir_raw::alias_params;
 
 /// Whether these are so many parts.
 #[tactic(auto, using(crate::specs::Words::term_is))]

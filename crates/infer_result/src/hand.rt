@@ -1,12 +1,13 @@
 //! Whether a type can stand in the body of a definition.
 ghost use Rattle.std.specs.Prelude.{◌≡◌, ◌↔◌, IfOk, IsTrue};
-ghost use Rattle.infer_obligations.specs.Words.{params_of, scope_of, IsInHand};
+ghost use Rattle.infer_result.specs.Words.{params_of, scope_of};
+ghost use Rattle.infer_result.specs.Own.{IsInHand};
 
 use crate::made::is_read_type;
-use infer_coerce::goal_terms::type_term;
-use infer_coerce::hir_facts::{DefWithBodyId, Facts, GenericDefId, RawFacts, Ty};
-use infer_coerce::hir_raw::{generic_params, has_associated};
-use infer_coerce::infer_table::InferenceTable;
+use goal_facts::goal_terms::type_term;
+use goal_facts::hir_facts::{DefWithBodyId, Facts, GenericDefId, RawFacts, Ty};
+use goal_facts::hir_raw::{generic_params, has_associated};
+use goal_facts::infer_table::InferenceTable;
 use std::alloc::{AllocError, Global};
 
 /// How many parameters are in scope in the body of a definition.

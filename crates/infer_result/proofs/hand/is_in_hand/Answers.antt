@@ -1,8 +1,8 @@
 use Rattle.std.proofs.Common.{◌∙◌, subst, sym, true≢false}
-use Rattle.infer_obligations.specs.Words.{term, Scope, scope_of, whole, IsMadeOf, is_read_head}
-use Rattle.infer_obligations.specs.Own.{body_scope}
-use Rattle.infer_obligations.proofs.InHand.{scope_is, not_in_hand, in_hand_if}
-use Rattle.infer_obligations.proofs.hand.is_in_hand.Goals as goal
+use Rattle.infer_result.proofs.hand.is_in_hand.Goals as goal
+use Rattle.infer_result.specs.Words.{term, Scope, scope_of, whole, IsMadeOf}
+use Rattle.infer_result.specs.Own.{is_read_head, body_scope}
+use Rattle.infer_result.proofs.InHand.{scope_is, not_in_hand, in_hand_if}
 
 pub returns-then-not-is_read_type : goal.returns-then-not-is_read_type
 returns-then-not-is_read_type c =
