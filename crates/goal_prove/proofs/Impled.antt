@@ -3,7 +3,7 @@ use Rattle.std.specs.Prelude.{◌≡◌, ◌⊎◌, ◌+◌, ◌<◌, ℕ, zero,
 use Rattle.std.proofs.Common.{inl, inr, sym, ap, ◌∙◌, subst, arith, true≢false}
 use Rattle.std.proofs.lemmas.Bool.{or_cases, or_left, or_right}
 use Rattle.std.proofs.lemmas.Option.{same_Some}
-use Rattle.goal_prove.specs.Words.{TypeAliasId, TypeRefId, Hole, Term, hole, leaf, pair, apply, occurs, term, RawTraitRef, RawAssocType, RawGoal, RawImpl, RawFacts, arg_types, Log, found, pair_left, Fill, plain, alias, role, stands, Aliases, Reads, projects, Asked, Rule, key, Each, IsOne, fill_of, holes, type_at, args_at, goal_at, trait_rule, assoc_rule, rules_for, impl_rules, arg_at, args_fill}
+use Rattle.goal_prove.specs.Words.{TypeAliasId, TypeRefId, Hole, Term, hole, leaf, pair, apply, occurs, term, RawTraitRef, RawAssocType, RawGoal, RawImpl, RawFacts, arg_types, Log, found, pair_left, Fill, plain, alias, role, stands, Aliases, Reads, projects, Asked, Rule, key, Each, IsOne, fill_of, holes, type_at, args_at, goal_at, trait_rule, assoc_rule, rules_for, said_trait, impl_rules, arg_at, args_fill}
 use Rattle.hir_types.specs.declared.head.Head.TheVariants as head
 use Rattle.hir_types.specs.declared.head.Hole.TheVariants as hole_of
 use Rattle.hir_types.specs.declared.ty.GenericArg.TheVariants as arg
@@ -76,7 +76,7 @@ module _ (A : Aliases) (one : IsOne A) (alias_good : AliasIsGood A) (raw : RawFa
   filled_by t r w (inr (x, e)) = subst (λ y. Filled y w) e (assoc_filled t x w)
 
   pub rule_filled : (i : ℕ) (r : Rule) → slice_get (impl_rules raw p) i ≡ Some r → (w : Term) → Filled r w
-  rule_filled i r listed w = let q = rule_cases raw p p.trait_ i r listed in filled_by q.0 r w q.1
+  rule_filled i r listed w = let q = rule_cases raw p (said_trait raw p.trait_) i r listed in filled_by q.0 r w q.1
 
   -- its predicates, of which each hole is told
   abbrev PredsGood : List Asked → Type 0
@@ -91,7 +91,7 @@ module _ (A : Aliases) (one : IsOne A) (alias_good : AliasIsGood A) (raw : RawFa
   preds_by t r (inr (x, e)) = subst (λ (y : Rule). PredsGood y.preds) e (written_good p.preds)
 
   pub preds_good : (i : ℕ) (r : Rule) → slice_get (impl_rules raw p) i ≡ Some r → PredsGood r.preds
-  preds_good i r listed = let q = rule_cases raw p p.trait_ i r listed in preds_by q.0 r q.1
+  preds_good i r listed = let q = rule_cases raw p (said_trait raw p.trait_) i r listed in preds_by q.0 r q.1
 
 -- ---- the arguments, as types
 
