@@ -2,7 +2,7 @@
 """Runs the program on examples with each of its allocations failing in turn: each such run must answer
 want of memory (status 5), write nothing on standard output, and say so on standard error; or, where what failed
 was to keep the text for a sentence, answer as with enough memory. What is asked for is the last function that an
-example has.
+example has, or what a session asks for.
 
 Usage: tools/fail_alloc.py [EXAMPLE..]      (those of EXAMPLES where none is given; needs a C compiler)
 Build the program first: cd crates/infer_tool && rt run -- table fn 0 < ../../examples/first_run.json
@@ -15,7 +15,7 @@ import tempfile
 
 TOP = os.path.dirname(os.path.dirname(os.path.abspath(__file__)))
 PROGRAM = os.path.join(TOP, "crates", "infer_tool", "out", "infer_tool")
-EXAMPLES = [os.path.join(TOP, "examples", name) for name in ("first_run.json", "calls.json", "constructors.json")]
+EXAMPLES = [os.path.join(TOP, "examples", name) for name in ("first_run.json", "calls.json", "constructors.json", "session.json")]
 
 # Fails the allocation whose number FAIL_AT gives, from 1, and each one after it where ALL is set. Makes the file FAILED
 # where one failed.
@@ -69,7 +69,8 @@ def failed_in_turn(example, folder, every):
     """Fails the allocations, each alone or with each after it. How many runs that was, how many of them answered as with
     enough memory, and how many wrongly."""
     text = open(example, "rb").read()
-    words = [PROGRAM, "table", "fn", str(len(json.loads(text)["fns"]) - 1)]
+    value = json.loads(text)
+    words = [PROGRAM] + (["session"] if "commands" in value else ["table", "fn", str(len(value["fns"]) - 1)])
     want = subprocess.run(words, input=text, capture_output=True, timeout=10)
     failed = os.path.join(folder, "failed")
     count = whole = wrong = 0

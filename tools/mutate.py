@@ -1,9 +1,10 @@
 #!/usr/bin/env python3
 """Runs the program on random mutations of the examples: each must end with one of its statuses.
 
-Bytes are flipped, cut out and doubled, keys dropped, numbers changed, lists cut. What is asked for is the last
-function that the example has. Prints how often each status came, and fails at a crash, a hang (10 seconds), a status that is none
-of the program's, and output at a status that writes none.
+Bytes are flipped, cut out and doubled, keys dropped, numbers changed, lists cut. Of each example the last function is asked for, and
+in a session all its functions and one more, the last of them twice. Prints how often each status came of either, and fails at a
+crash, a hang (10 seconds), a status that is none of the program's, 9 in a session, output at a status that writes none, and a
+last line that isn't the command's.
 """
 import argparse
 import collections
@@ -79,9 +80,27 @@ def mutated(rng, text):
     return bytes(out)
 
 
-def run(path, text, number):
-    done = subprocess.run([path, "table", "fn", str(number)], input=text, capture_output=True, timeout=10)
-    return done.returncode, done.stdout, done.stderr
+def session_of(facts):
+    """A session over an example's facts."""
+    count = len(facts["fns"])
+    return {"facts": facts, "commands": [["table", "fn", number] for number in (*range(count + 1), count - 1)]}
+
+
+def asked_of(value):
+    """What is asked of an example: pairs of words and a text. The last function calls those before it."""
+    if "commands" in value:
+        return [(["session"], json.dumps(value).encode())]
+    return [(["table", "fn", str(len(value["fns"]) - 1)], json.dumps(value).encode()),
+            (["session"], json.dumps(session_of(value)).encode())]
+
+
+def is_fine(words, status, out, err):
+    """Whether a run ended as one of its command may."""
+    is_session = words == ["session"]
+    if status in REPORTS:
+        last = out.splitlines()[-1] if out.endswith(b"\n") else b""
+        return last.startswith(b"inferred " if is_session else b"complaints ") and not err
+    return status in SILENT and not (is_session and status == 9) and not out and bool(err)
 
 
 def program_path(given):
@@ -99,28 +118,27 @@ def main():
     parser.add_argument("seed", metavar="SEED", nargs="?", type=int, default=1, help="1 where none is given")
     add_program_options(parser)
     given = parser.parse_args()
-    path, count, rng = program_path(given), given.count, random.Random(given.seed)
-    texts = [open(name, "rb").read() for name in sorted(glob.glob(os.path.join(TOP, "examples", "*.json")))]
-    seen = collections.Counter()
-    wrong = 0
-    numbers = [len(json.loads(text)["fns"]) - 1 for text in texts]  # the last function calls those before it
-    chosen = [rng.randrange(len(texts)) for _ in range(count)]
-    batch = [mutated(rng, texts[at]) for at in chosen]
+    path, rng = program_path(given), random.Random(given.seed)
+    examples = [json.load(open(name, encoding="utf-8")) for name in sorted(glob.glob(os.path.join(TOP, "examples", "*.json")))]
+    asked = [pair for value in examples for pair in asked_of(value)]
+    batch = [(words, mutated(rng, text)) for words, text in (rng.choice(asked) for _ in range(given.count))]
+    seen, wrong = collections.Counter(), 0
     with ThreadPoolExecutor(4) as pool:
-        for text, answer in zip(batch, pool.map(lambda text, at: attempt(path, text, numbers[at]), batch, chosen)):
-            status, out, err = answer
-            seen[status] += 1
-            fine = (status in REPORTS and out.endswith(b"\n") and not err) or (status in SILENT and not out and err)
-            if not fine:
+        for (words, text), (status, out, err) in zip(batch, pool.map(lambda of: attempt(path, *of), batch)):
+            seen[words[0], status] += 1
+            if not is_fine(words, status, out, err):
                 wrong += 1
-                print("status %r, %d bytes out, for %r" % (status, len(out), text[:2000]))
-    print("%d texts: %s" % (count, ", ".join("status %s %d" % pair for pair in sorted(seen.items(), key=str))))
+                print("%s: status %r, %d bytes out, for %r" % (" ".join(words), status, len(out), text[:2000]))
+    counts = ("%s %s %d" % (*of, count) for of, count in sorted(seen.items(), key=str))
+    print("%d texts, %d wrong; commands and statuses: %s" % (given.count, wrong, ", ".join(counts)))
     sys.exit(1 if wrong else 0)
 
 
-def attempt(path, text, number):
+def attempt(path, words, text):
+    """The status of a run, and what it wrote on both outputs."""
     try:
-        return run(path, text, number)
+        done = subprocess.run([path] + words, input=text, capture_output=True, timeout=10)
+        return done.returncode, done.stdout, done.stderr
     except subprocess.TimeoutExpired:
         return "hang", b"", b""
 

@@ -1,4 +1,4 @@
-"""Cuts the facts of a crate down to what one function needs, so that a run does not read the whole crate for each."""
+"""Asks for the reports on functions of a crate; cuts its facts down to what one function needs, where there is none else."""
 import json
 import re
 
@@ -29,7 +29,7 @@ class Slice:
         self.old = {kind: sorted(of) for kind, of in self.kept.items()}
         self.new = {kind: {old: new for new, old in enumerate(of)} for kind, of in self.old.items()}
         self.number = self.new["fns"][number]
-        self.text = json.dumps(self.written(number), separators=(",", ":"))
+        self.text = text_of(self.written(number))
 
     # What is needed.
 
@@ -206,7 +206,25 @@ class Slice:
 
 
 def reports_on(asked, program):
-    """The reports on functions, of which each is facts and a number there; a NoReport where there is none."""
+    """The reports on functions, of which each is facts and a number there; a NoReport where there is none.
+
+    Facts are read once for all their functions. What has no report so is asked once more with what it needs alone, as facts may
+    be too long, or refused for another function.
+    """
+    texts = {id(facts): text_of(facts) for facts in {id(facts): facts for facts, _ in asked}.values()}
+    reports = program.reports([(texts[id(facts)], number) for facts, number in asked])
+    left = [at for at, report in enumerate(reports) if isinstance(report, NoReport)]
+    for at, report in zip(left, reports_alone([asked[at] for at in left], program)):
+        reports[at] = report
+    return reports
+
+
+def reports_alone(asked, program):
+    """The same, where each function has facts of its own."""
     slices = [Slice(facts, number) for facts, number in asked]
     reports = program.reports([(of.text, of.number) for of in slices])
     return [of if isinstance(of, NoReport) else own.back(of) for own, of in zip(slices, reports)]
+
+
+def text_of(facts):
+    return json.dumps(facts, separators=(",", ":"))

@@ -1,19 +1,24 @@
 -- When a run must end with a table, and when as one without.
-use Rattle.std.specs.Prelude.{◌≡◌, ◌<◌, ◌≤◌, ◌⊎◌, ◌∷◌, [], ℕ, zero, suc, List, length, Some, Ok, Err, Result, refl}
-use Rattle.std.proofs.Common.{arith, sym, ◌∙◌, subst, inl, inr}
+use Rattle.std.specs.Prelude.{◌≡◌, ◌<◌, ◌≤◌, ◌⊎◌, ◌∷◌, [], ℕ, zero, suc, List, length, Option, Ok, Err, Result, refl}
+use Rattle.std.proofs.Common.{arith, sym, ap, ◌∙◌, subst, inl, inr}
+use Rattle.hir_types.specs.declared.ids.DefWithBodyId.{DefWithBodyId}
 use Rattle.hir_raw.specs.declared.raw.RawFacts.{RawFacts}
 use Rattle.hir_facts.specs.declared.laws.Law.{Law}
-use Rattle.hir_facts.specs.declared.laws.Law.TheVariants as law
 use Rattle.hir_facts.specs.declared.laws.FactsList.{FactsList}
-use Rattle.hir_facts.specs.declared.laws.FactsList.TheVariants as list
-use Rattle.hir_facts.specs.Bodies.{HasBody}
 use Rattle.hir_facts.specs.Entries.{AllHold, BreaksAt}
 use Rattle.hir_facts.specs.Lawful.{Test, PassesAll, FirstBroken, says, tests}
-use Rattle.infer_run.specs.declared.running.Ran.{Ran}
-use Rattle.infer_text.specs.Facts.{Fault, no_json, shape, raw_facts, IsRead}
+use Rattle.infer_result.specs.declared.result.InferenceResult.{InferenceResult}
+use Rattle.infer_text.specs.Facts.{Fault, no_json, shape}
+use Rattle.infer_text.specs.Session.{Session}
 use Rattle.infer_run.specs.Exactly.{Exactly, IsGiven, IsGivenFacts}
-use Rattle.infer_run.specs.Outcome.{limit, Ends, HasFacts, TookAll, Outcome}
-use Rattle.infer_run.proofs.Consequences.{no_source_fault, no_sink_fault, same_definition, took_text, not_too_long}
+use Rattle.infer_run.specs.Outcome.{limit, Ends, HasFacts, HasText, TookAll, Outcome}
+use Rattle.infer_run.specs.Request.{IsAsked, IsDue, CanAnswer, LacksBody, meant}
+use Rattle.infer_run.specs.declared.running.Ran.{Ran}
+use Rattle.infer_run.specs.declared.words.Request.{Request}
+use Rattle.hir_facts.specs.declared.laws.Law.TheVariants as law
+use Rattle.hir_facts.specs.declared.laws.FactsList.TheVariants as list
+use Rattle.infer_run.specs.declared.words.Request.TheVariants as request
+use Rattle.infer_run.proofs.Consequences.{no_source_fault, no_sink_fault, same_request, took_text, not_too_long}
 
 -- ---- lawful facts break no law
 
@@ -61,48 +66,64 @@ none_broken raw (t ∷ ts) l k i all (inr later) = none_broken raw ts l k i all.
 
 -- ---- each status but 0, 1 and 5 has another cause
 
-ok_is : (f g : RawFacts) (r : Result RawFacts Fault) → r ≡ Ok f → r ≡ Ok g → f ≡ g
-ok_is f g r p q = let e : Ok f ≡ Ok g = sym p ∙ q in cc
+ok_is : {A : Type 0} (x y : A) (r : Result A Fault) → r ≡ Ok x → r ≡ Ok y → x ≡ y
+ok_is x y r p q = let e : Ok x ≡ Ok y = sym p ∙ q in cc
 
-err_is_not : (f : RawFacts) (x : Fault) (r : Result RawFacts Fault) → r ≡ Ok f → r ≡ Err x → ⊥
-err_is_not f x r p q = let e : Ok f ≡ Err x = sym p ∙ q in cc
+err_is_not : {A : Type 0} (x : A) (f : Fault) (r : Result A Fault) → r ≡ Ok x → r ≡ Err f → ⊥
+err_is_not x f r p q = let e : Ok x ≡ Err f = sym p ∙ q in cc
+
+can_or_lacks : (r : Request) (raw : RawFacts) → CanAnswer r raw → LacksBody r raw → ⊥
+can_or_lacks (request.Table d) raw has lacks = lacks has
+can_or_lacks request.Session raw has lacks = lacks
+
+due_can : (r : Request) (raw : RawFacts) (defs : List DefWithBodyId) (kept : Option InferenceResult) (due : List ℕ) (status : ℕ) → IsDue r raw defs kept due status → CanAnswer r raw
+due_can (request.Table d) raw defs kept due status h = h.promised.has_body
+due_can request.Session raw defs kept due status h = tt
 
 module _ (words : List (List ℕ)) (e : Ends) (ran : Ran) (o : Outcome words e ran) where
   -- ---- lawful facts
 
   module _ (a : IsGivenFacts words e) where
-    stands_at : (bytes : List ℕ) → TookAll e bytes → raw_facts bytes ≡ Ok a.raw
-    stands_at bytes took = subst (λ t. raw_facts t ≡ Ok a.raw) (took_text e a.text bytes a.given.tells took) a.is_read.stands
+    abbrev session : Session
+    session = (a.raw, a.defs)
+
+    stands_at : (r : Request) (bytes : List ℕ) → IsAsked words r → TookAll e bytes → meant r bytes ≡ Ok session
+    stands_at r bytes asked took =
+        subst (λ q. meant q bytes ≡ Ok session) (same_request words a.given.request r a.given.asked asked)
+        (subst (λ t. meant a.given.request t ≡ Ok session) (took_text e a.text bytes a.given.tells took) a.is_read.stands)
+
+    of_text : (x : HasText words e) → meant x.request x.text ≡ Ok session
+    of_text x = stands_at x.request x.text x.asked x.took
 
     not_json : ran.status ≡ 6 → ⊥
-    not_json is = let x = o.json is in err_is_not a.raw no_json (raw_facts x.text) (stands_at x.text x.took) x.stands
+    not_json is = let x = o.json is in err_is_not session no_json _ (of_text x.read) x.stands
 
     not_misshapen : ran.status ≡ 7 → ⊥
-    not_misshapen is = let x = o.misshapen is in err_is_not a.raw (shape x.path) (raw_facts x.text) (stands_at x.text x.took) x.stands
+    not_misshapen is = let x = o.misshapen is in err_is_not session (shape x.path) _ (of_text x.read) x.stands
 
     not_unlawful : ran.status ≡ 8 → ⊥
     not_unlawful is =
         let x = o.unlawful is in
-        let same : x.stands.raw ≡ a.raw = ok_is x.stands.raw a.raw (raw_facts x.text) x.stands.stands (stands_at x.text x.took) in
-        none_broken a.raw tests x.law x.list x.index a.is_read.lawful.all (subst (λ r. FirstBroken r tests x.law x.list x.index) same x.stands.first)
+        let same : x.stands.broken ≡ session = ok_is x.stands.broken session _ x.stands.stands (of_text x.read) in
+        none_broken a.raw tests x.law x.list x.index a.is_read.lawful.all (subst (λ (r : Session). FirstBroken r.0 tests x.law x.list x.index) same x.stands.first)
 
-    -- the facts and the definition that were found are these
+    -- the facts that were found, and what is asked for, are these
     same_raw : (x : HasFacts words e ran) → a.raw ≡ x.raw
-    same_raw x = ok_is a.raw x.raw (raw_facts x.text) (stands_at x.text x.took) x.is_read.stands
+    same_raw x = ap (λ (s : Session). s.0) (ok_is session (x.raw, x.defs) _ (stands_at x.request x.text x.asked x.took) x.is_read.stands)
 
-    same_def : (x : HasFacts words e ran) → a.given.def ≡ x.def
-    same_def x = same_definition words a.given.def x.def a.given.command x.command
+    same_asked : (x : HasFacts words e ran) → a.given.request ≡ x.request
+    same_asked x = same_request words a.given.request x.request a.given.asked x.asked
 
-    has_body_there : (x : HasFacts words e ran) → HasBody a.raw a.given.def → HasBody x.raw x.def
-    has_body_there x has = subst (λ d. HasBody x.raw d) (same_def x) (subst (λ r. HasBody r a.given.def) (same_raw x) has)
+    can_there : (x : HasFacts words e ran) → CanAnswer a.given.request a.raw → CanAnswer x.request x.raw
+    can_there x can = subst (λ r. CanAnswer r x.raw) (same_asked x) (subst (λ f. CanAnswer a.given.request f) (same_raw x) can)
 
-    has_body_here : (x : HasFacts words e ran) → HasBody x.raw x.def → HasBody a.raw a.given.def
-    has_body_here x has = subst (λ r. HasBody r a.given.def) (sym (same_raw x)) (subst (λ d. HasBody x.raw d) (sym (same_def x)) has)
+    can_here : (x : HasFacts words e ran) → CanAnswer x.request x.raw → CanAnswer a.given.request a.raw
+    can_here x can = subst (λ f. CanAnswer a.given.request f) (sym (same_raw x)) (subst (λ r. CanAnswer r x.raw) (sym (same_asked x)) can)
 
     by_status : (n : ℕ) → ran.status ≡ n → n ≤ 10 → (n ≤ 1) ⊎ (n ≡ 5) ⊎ (n ≡ 9)
     by_status zero is le = inl (omega arith)
     by_status (suc zero) is le = inl (omega arith)
-    by_status (suc (suc zero)) is le = absurd (o.no_command.0 is a.given.def a.given.command)
+    by_status (suc (suc zero)) is le = absurd (o.no_command.0 is a.given.request a.given.asked)
     by_status (suc (suc (suc zero))) is le = absurd (no_source_fault words e ran o a.given.sure is)
     by_status (suc (suc (suc (suc zero)))) is le = absurd (no_sink_fault words e ran o a.given.sure is)
     by_status (suc (suc (suc (suc (suc zero))))) is le = inr (inl refl)
@@ -113,16 +134,16 @@ module _ (words : List (List ℕ)) (e : Ends) (ran : Ran) (o : Outcome words e r
     by_status (suc (suc (suc (suc (suc (suc (suc (suc (suc (suc zero)))))))))) is le = absurd (not_too_long words e ran a.text o a.given.tells a.short is)
     by_status (suc (suc (suc (suc (suc (suc (suc (suc (suc (suc (suc n))))))))))) is le = absurd (omega arith)
 
-    makes_table : HasBody a.raw a.given.def → (ran.status ≤ 1) ⊎ (ran.status ≡ 5)
-    makes_table has = elim (by_status ran.status refl o.kinds) [
+    answers : CanAnswer a.given.request a.raw → (ran.status ≤ 1) ⊎ (ran.status ≡ 5)
+    answers can = elim (by_status ran.status refl o.kinds) [
       | inl few ↦ inl few
       | inr (inl memory) ↦ inr memory
-      | inr (inr none) ↦ (let x = o.body none in absurd (x.no_body (has_body_there x.found has)))
+      | inr (inr none) ↦ (let x = o.body none in absurd (can_or_lacks x.found.request x.found.raw (can_there x.found can) x.no_body))
     ]
 
-    says_no_body : (HasBody a.raw a.given.def → ⊥) → (ran.status ≡ 9) ⊎ (ran.status ≡ 5)
+    says_no_body : LacksBody a.given.request a.raw → (ran.status ≡ 9) ⊎ (ran.status ≡ 5)
     says_no_body lacks = elim (by_status ran.status refl o.kinds) [
-      | inl few ↦ (let x = (o.done few).found in absurd (lacks (has_body_here x.facts x.inferred.has_body)))
+      | inl few ↦ (let x = (o.done few).found in absurd (can_or_lacks a.given.request a.raw (can_here x.facts (due_can x.facts.request x.facts.raw x.facts.defs _ _ _ x.is_due)) lacks))
       | inr (inl memory) ↦ inr memory
       | inr (inr none) ↦ inl none
     ]
@@ -140,20 +161,20 @@ module _ (words : List (List ℕ)) (e : Ends) (ran : Ran) (o : Outcome words e r
     long_by_status : (n : ℕ) → ran.status ≡ n → n ≤ 10 → (n ≡ 10) ⊎ (n ≡ 5)
     long_by_status zero is le = (let x = (o.done (omega (arith, is))).found.facts in absurd (not_whole x.text x.took))
     long_by_status (suc zero) is le = (let x = (o.done (omega (arith, is))).found.facts in absurd (not_whole x.text x.took))
-    long_by_status (suc (suc zero)) is le = absurd (o.no_command.0 is g.def g.command)
+    long_by_status (suc (suc zero)) is le = absurd (o.no_command.0 is g.request g.asked)
     long_by_status (suc (suc (suc zero))) is le = absurd (no_source_fault words e ran o g.sure is)
     long_by_status (suc (suc (suc (suc zero)))) is le = absurd (no_sink_fault words e ran o g.sure is)
     long_by_status (suc (suc (suc (suc (suc zero))))) is le = inr refl
-    long_by_status (suc (suc (suc (suc (suc (suc zero)))))) is le = (let x = o.json is in absurd (not_whole x.text x.took))
-    long_by_status (suc (suc (suc (suc (suc (suc (suc zero))))))) is le = (let x = o.misshapen is in absurd (not_whole x.text x.took))
-    long_by_status (suc (suc (suc (suc (suc (suc (suc (suc zero)))))))) is le = (let x = o.unlawful is in absurd (not_whole x.text x.took))
+    long_by_status (suc (suc (suc (suc (suc (suc zero)))))) is le = (let x = (o.json is).read in absurd (not_whole x.text x.took))
+    long_by_status (suc (suc (suc (suc (suc (suc (suc zero))))))) is le = (let x = (o.misshapen is).read in absurd (not_whole x.text x.took))
+    long_by_status (suc (suc (suc (suc (suc (suc (suc (suc zero)))))))) is le = (let x = (o.unlawful is).read in absurd (not_whole x.text x.took))
     long_by_status (suc (suc (suc (suc (suc (suc (suc (suc (suc zero))))))))) is le = (let x = (o.body is).found in absurd (not_whole x.text x.took))
     long_by_status (suc (suc (suc (suc (suc (suc (suc (suc (suc (suc zero)))))))))) is le = inl refl
     long_by_status (suc (suc (suc (suc (suc (suc (suc (suc (suc (suc (suc n))))))))))) is le = absurd (omega arith)
 
   pub exactly : Exactly words e ran
   exactly = record {
-    table = makes_table;
+    due = answers;
     no_body = says_no_body;
     too_long = λ text g long. long_by_status text g long ran.status refl o.kinds;
   }

@@ -1,17 +1,20 @@
 -- What follows from the outcome of a run.
-use Rattle.std.specs.Prelude.{◌≡◌, ◌<◌, ◌≤◌, ◌+◌, ◌-◌, ◌^◌, ◌∷◌, [], ◌++◌, ℕ, List, length, Option, Some, None, codes}
+use Rattle.std.specs.Prelude.{◌≡◌, ◌<◌, ◌≤◌, ◌+◌, ◌-◌, ◌^◌, ◌∷◌, [], ◌++◌, ℕ, List, length, Option, Some, None, codes, refl}
 use Rattle.std.proofs.Common.{arith, sym, ap, ◌∙◌, subst}
 use Rattle.std.proofs.lemmas.List.{append-nil, length-append}
 use Rattle.std.proofs.lemmas.Fmt.{decimal_injective}
 use Rattle.std.specs.Fmt.{decimal}
 use Rattle.std.specs.Io.KnownBytes.{Consumes, IsAtEnd}
 use Rattle.hir_types.specs.declared.ids.DefWithBodyId.{DefWithBodyId}
-use Rattle.hir_types.specs.declared.ids.DefWithBodyId.TheVariants as def
-use Rattle.infer_run.specs.declared.running.Ran.{Ran}
 use Rattle.infer_run.specs.Causes.{Rose}
 use Rattle.infer_run.specs.Command.{IsCommand, kind_word, definition_number}
 use Rattle.infer_run.specs.Exactly.{AreSure}
 use Rattle.infer_run.specs.Outcome.{limit, Ends, TookAll, Outcome}
+use Rattle.infer_run.specs.Request.{IsAsked}
+use Rattle.infer_run.specs.declared.running.Ran.{Ran}
+use Rattle.infer_run.specs.declared.words.Request.{Request}
+use Rattle.hir_types.specs.declared.ids.DefWithBodyId.TheVariants as def
+use Rattle.infer_run.specs.declared.words.Request.TheVariants as request
 
 -- ---- ends without faults
 
@@ -62,6 +65,16 @@ pub same_definition : (words : List (List ℕ)) (a b : DefWithBodyId) → IsComm
 same_definition words a b p q =
     let both : codes "table" ∷ kind_word a ∷ decimal (definition_number a) ∷ [] ≡ codes "table" ∷ kind_word b ∷ decimal (definition_number b) ∷ [] = sym p.words_are ∙ q.words_are in
     by_kind a b (kinds_agree _ _ _ _ _ _ both) (by_number (definition_number a) (definition_number b) p.fits q.fits (numbers_agree _ _ _ _ _ _ both))
+
+not_both : (words : List (List ℕ)) (d : DefWithBodyId) → IsCommand words d → words ≡ codes "session" ∷ [] → ⊥
+not_both words d p is =
+    let both : codes "table" ∷ kind_word d ∷ decimal (definition_number d) ∷ [] ≡ codes "session" ∷ [] = sym p.words_are ∙ is in cc
+
+pub same_request : (words : List (List ℕ)) (r q : Request) → IsAsked words r → IsAsked words q → r ≡ q
+same_request words (request.Table a) (request.Table b) p q = ap (λ d. request.Table d) (same_definition words a b p q)
+same_request words (request.Table a) request.Session p q = absurd (not_both words a p q)
+same_request words request.Session (request.Table b) p q = absurd (not_both words b q p)
+same_request words request.Session request.Session p q = refl
 
 -- ---- all bytes of a source that tells them
 

@@ -3,3 +3,5 @@ pub mod Consequences
 pub mod Pieces
 pub mod Three
 pub mod Endings
+pub mod Asked
+pub mod MadeReports

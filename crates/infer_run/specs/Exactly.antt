@@ -2,11 +2,12 @@
 use Rattle.std.specs.Prelude.{◌≡◌, ◌<◌, ◌≤◌, ◌-◌, ◌^◌, ◌⊎◌, ℕ, List, length, Some}
 use Rattle.hir_types.specs.declared.ids.DefWithBodyId.{DefWithBodyId}
 use Rattle.hir_raw.specs.declared.raw.RawFacts.{RawFacts}
-use Rattle.hir_facts.specs.Bodies.{HasBody}
 use Rattle.infer_text.specs.Facts.{IsRead}
-use Rattle.infer_run.specs.declared.running.Ran.{Ran}
-use Rattle.infer_run.specs.Command.{IsCommand}
+use Rattle.infer_text.specs.Session.{facts_of}
 use Rattle.infer_run.specs.Outcome.{limit, Ends}
+use Rattle.infer_run.specs.Request.{IsAsked, CanAnswer, LacksBody, meant}
+use Rattle.infer_run.specs.declared.running.Ran.{Ran}
+use Rattle.infer_run.specs.declared.words.Request.{Request}
 
 -- neither count of faults rose, and neither stands at its type's last value
 pub record AreSure (e : Ends) : Type 0 where
@@ -15,10 +16,10 @@ pub record AreSure (e : Ends) : Type 0 where
   pub writes : e.writes_new ≡ e.writes
   pub writes_few : e.writes < 2 ^ 64 - 1
 
--- the words name a definition, the source tells that it gives this text, and neither end fails
+-- the words ask for something, the source tells that it gives this text, and neither end fails
 pub record IsGiven (words : List (List ℕ)) (e : Ends) (text : List ℕ) : Type 0 where
-  pub def : DefWithBodyId
-  pub command : IsCommand words def
+  pub request : Request
+  pub asked : IsAsked words request
   pub tells : e.left ≡ Some text
   pub sure : AreSure e
 
@@ -28,13 +29,13 @@ pub record IsGivenFacts (words : List (List ℕ)) (e : Ends) : Type 0 where
   pub given : IsGiven words e text
   pub short : length text ≤ limit
   pub raw : RawFacts
-  pub is_read : IsRead text raw
+  pub defs : List DefWithBodyId
+  pub is_read : IsRead facts_of (meant given.request text) (raw, defs)
 
--- Lawful facts give a table where the definition has a body there, and else it is said that it has none; of a
--- text that is too long that is said.
+-- Lawful facts give what is due for a session, and a table where its one definition has a body there, and else it
+-- is said that it has none; of a text that is too long that is said.
 pub record Exactly (words : List (List ℕ)) (e : Ends) (ran : Ran) : Type 0 where
-  pub table : (x : IsGivenFacts words e) → HasBody x.raw x.given.def → (ran.status ≤ 1) ⊎ (ran.status ≡ 5)
-  pub no_body : (x : IsGivenFacts words e) → (HasBody x.raw x.given.def → ⊥) → (ran.status ≡ 9)
-      ⊎ (ran.status ≡ 5)
+  pub due : (x : IsGivenFacts words e) → CanAnswer x.given.request x.raw → (ran.status ≤ 1) ⊎ (ran.status ≡ 5)
+  pub no_body : (x : IsGivenFacts words e) → LacksBody x.given.request x.raw → (ran.status ≡ 9) ⊎ (ran.status ≡ 5)
   pub too_long : (text : List ℕ) → IsGiven words e text → limit < length text → (ran.status ≡ 10)
       ⊎ (ran.status ≡ 5)

@@ -1,24 +1,17 @@
 -- What a run of the command does, by the status that it ends with.
-use Rattle.std.specs.Prelude.{◌≡◌, ◌==◌, ◌||◌, ◌&&◌, ◌<◌, ◌≤◌, ◌+◌, ◌↔◌, ℕ, List, length, take, Bool, Option, Some, Err, is_some, nat_lt, nat_le, if◌then◌else◌}
+use Rattle.std.specs.Prelude.{◌≡◌, ◌==◌, ◌||◌, ◌&&◌, ◌<◌, ◌≤◌, ◌+◌, ◌↔◌, ℕ, List, length, take, Bool, Option, Some, None, Result, Err, is_some, nat_le}
 use Rattle.std.specs.Io.KnownBytes.{Appends, Consumes, IsAtEnd, Keeps}
 use Rattle.hir_types.specs.declared.ids.DefWithBodyId.{DefWithBodyId}
-use Rattle.hir_raw.specs.declared.raw.RawBody.{RawBody}
 use Rattle.hir_raw.specs.declared.raw.RawFacts.{RawFacts}
 use Rattle.hir_facts.specs.declared.laws.Law.{Law}
 use Rattle.hir_facts.specs.declared.laws.FactsList.{FactsList}
-use Rattle.hir_facts.specs.Bodies.{HasBody, body_of}
-use Rattle.infer_result.specs.declared.result.InferenceResult.{InferenceResult}
-use Rattle.infer_result.specs.Typed.{IsTableOf, given}
-use Rattle.infer_result.specs.General.{HasGeneral}
-use Rattle.infer_result.specs.Needs.{GoalsHold, HasNoneLeft}
-use Rattle.infer_result.specs.WrittenAliases.{AllWrittenAreListed}
-use Rattle.infer_expr.specs.Below.{ComesOfSelection, EntriesFit, RootsAreNeeded}
-use Rattle.infer_result.specs.Report.{report, complaint_count}
-use Rattle.infer_text.specs.declared.fault.ReadError.TheVariants as error
-use Rattle.infer_run.specs.declared.running.Ran.{Ran}
+use Rattle.infer_text.specs.Facts.{Fault, IsUnlawful, no_json, shape, IsRead}
+use Rattle.infer_text.specs.Session.{Session, facts_of}
 use Rattle.infer_run.specs.Causes.{Rose}
-use Rattle.infer_run.specs.Command.{IsCommand}
-use Rattle.infer_text.specs.Facts.{IsRead, IsUnlawful, raw_facts, no_json, shape}
+use Rattle.infer_run.specs.Request.{IsAsked, IsDue, LacksBody, keeps_table, meant}
+use Rattle.infer_run.specs.declared.running.Ran.{Ran}
+use Rattle.infer_run.specs.declared.words.Request.{Request}
+use Rattle.infer_text.specs.declared.fault.ReadError.TheVariants as error
 
 -- the most bytes that are read
 abbrev pub limit : ℕ
@@ -67,76 +60,29 @@ pub record AppendsFront (old new : Option (List ℕ)) (due : List ℕ) : Type 0 
 
 -- ---- what was found out
 
--- the words name a definition, and the text stands for lawful facts
+-- the words ask for something, and the text stands for lawful facts
 pub record HasFacts (words : List (List ℕ)) (e : Ends) (ran : Ran) : Type 0 where
-  pub def : DefWithBodyId
-  pub command : IsCommand words def
+  pub request : Request
+  pub asked : IsAsked words request
   pub text : List ℕ
   pub took : TookAll e text
   pub raw : RawFacts
-  pub is_read : IsRead text raw
+  pub defs : List DefWithBodyId
+  pub is_read : IsRead facts_of (meant request text) (raw, defs)
   pub facts_is : ran.facts ≡ Some raw
 
--- what nodes of the definition's body need is proved, or it is said that it has no proof, or `{unknown}` stands in it and it may hold with other
--- types there
-abbrev pub HasGoals : RawFacts → DefWithBodyId → InferenceResult → Type 0
-HasGoals raw def table = (b : RawBody) → body_of raw def ≡ Some b → GoalsHold def (given raw def b) table
-
--- in no type is an associated type left that could be read, unless the table says what it is
-abbrev pub IsReadThrough : RawFacts → DefWithBodyId → InferenceResult → Type 0
-IsReadThrough raw def table = (b : RawBody) → body_of raw def ≡ Some b → HasNoneLeft def (given raw def b) table
-
--- what each associated type is that the definition, its `let`s and what nodes need are written with is listed, unless it stays
-abbrev pub HasWritten : RawFacts → DefWithBodyId → InferenceResult → Type 0
-HasWritten raw def table = (b : RawBody) → body_of raw def ≡ Some b → AllWrittenAreListed def (given raw def b) table
-
--- each listed proof of a goal about a trait is one that another asks for, or a node needs its goal
-abbrev pub HasAskedProofs : RawFacts → DefWithBodyId → InferenceResult → Type 0
-HasAskedProofs raw def table = (b : RawBody) → body_of raw def ≡ Some b → RootsAreNeeded (given raw def b) table
-
--- what is listed, and what is said could not be shown, names what the facts have, with as many arguments as it takes, and has no holes
-abbrev pub HasFitEntries : RawFacts → DefWithBodyId → InferenceResult → Type 0
-HasFitEntries raw def table = (b : RawBody) → body_of raw def ≡ Some b → EntriesFit (given raw def b) table
-
--- what they need was selected before its open holes fell back
-abbrev pub IsSelectedTable : RawFacts → DefWithBodyId → InferenceResult → Type 0
-IsSelectedTable raw def table = (b : RawBody) → body_of raw def ≡ Some b → ComesOfSelection raw def b table
-
--- the definition has a body, and this is its table, which has the types before open holes fell back exactly
--- where the body is plain, and what becomes of the goals of its nodes
-pub record IsInferred (def : DefWithBodyId) (raw : RawFacts) (ran : Ran) : Type 0 where
-  pub has_body : HasBody raw def
-  pub table : InferenceResult
-  pub typed : IsTableOf raw def table
-  pub general : HasGeneral raw def table
-  pub goals : HasGoals raw def table
-  pub left : IsReadThrough raw def table
-  pub written : HasWritten raw def table
-  pub roots : HasAskedProofs raw def table
-  pub fit : HasFitEntries raw def table
-  pub selected : IsSelectedTable raw def table
-  pub table_is : ran.table ≡ Some table
-
--- the definition, its facts and its table
-pub record HasTable (words : List (List ℕ)) (e : Ends) (ran : Ran) : Type 0 where
+-- and with tables made of them this text is due, which is written whole with this status
+pub record HasDue (words : List (List ℕ)) (e : Ends) (ran : Ran) (due : List ℕ) (status : ℕ) : Type 0 where
   pub facts : HasFacts words e ran
-  pub inferred : IsInferred facts.def facts.raw ran
-
--- the report on it
-abbrev pub due : {words : List (List ℕ)} {e : Ends} {ran : Ran} → HasTable words e ran → List ℕ
-due x = report x.facts.def x.facts.raw x.inferred.table
-
--- 1 exactly where there is a complaint
-abbrev pub status_of : InferenceResult → ℕ
-status_of r = if nat_lt 0 (complaint_count r) then 1 else 0
+  pub is_due : IsDue facts.request facts.raw facts.defs ran.table due status
 
 -- ---- each status
 
--- the report was written, all of it
+-- all that was due was written
 pub record Reported (words : List (List ℕ)) (e : Ends) (ran : Ran) : Type 0 where
-  pub found : HasTable words e ran
-  pub wrote : Appends e.written e.written_new (due found)
-  pub status_is : ran.status ≡ status_of found.inferred.table
+  pub due : List ℕ
+  pub found : HasDue words e ran due ran.status
+  pub wrote : Appends e.written e.written_new due
 
 -- the source failed before too much was read
 pub record SourceFailed (e : Ends) : Type 0 where
@@ -144,41 +90,51 @@ pub record SourceFailed (e : Ends) : Type 0 where
   pub bytes : List ℕ
   pub took : Took e bytes
 
--- the sink failed before the report was written
+-- the sink failed before all that was due was written
 pub record SinkFailed (words : List (List ℕ)) (e : Ends) (ran : Ran) : Type 0 where
   pub rose : Rose e.writes e.writes_new
-  pub found : HasTable words e ran
-  pub wrote : AppendsFront e.written e.written_new (due found)
+  pub due : List ℕ
+  pub status : ℕ
+  pub found : HasDue words e ran due status
+  pub wrote : AppendsFront e.written e.written_new due
 
--- the text is no JSON
-pub record IsNoJson (e : Ends) (ran : Ran) : Type 0 where
+-- all of a text was read, under what the words ask for
+pub record HasText (words : List (List ℕ)) (e : Ends) : Type 0 where
+  pub request : Request
+  pub asked : IsAsked words request
   pub text : List ℕ
   pub took : TookAll e text
-  pub stands : raw_facts text ≡ Err no_json
+
+-- what it stands for, or its first fault
+abbrev pub meaning : {words : List (List ℕ)} {e : Ends} → HasText words e → Result Session Fault
+meaning x = meant x.request x.text
+
+-- the text is no JSON
+pub record IsNoJson (words : List (List ℕ)) (e : Ends) (ran : Ran) : Type 0 where
+  pub read : HasText words e
+  pub stands : meaning read ≡ Err no_json
   pub fault_is : ran.fault ≡ Some error.Json
 
 -- another shape is wanted at a path
-pub record IsMisshapen (e : Ends) (ran : Ran) : Type 0 where
-  pub text : List ℕ
-  pub took : TookAll e text
+pub record IsMisshapen (words : List (List ℕ)) (e : Ends) (ran : Ran) : Type 0 where
+  pub read : HasText words e
   pub path : List ℕ
-  pub stands : raw_facts text ≡ Err (shape path)
+  pub stands : meaning read ≡ Err (shape path)
   pub fault_is : ran.fault ≡ Some (error.Shape path)
 
 -- a law is broken, and all before hold
-pub record BreaksLaw (e : Ends) (ran : Ran) : Type 0 where
-  pub text : List ℕ
-  pub took : TookAll e text
+pub record BreaksLaw (words : List (List ℕ)) (e : Ends) (ran : Ran) : Type 0 where
+  pub read : HasText words e
   pub law : Law
   pub list : FactsList
   pub index : ℕ
-  pub stands : IsUnlawful text law list index
+  pub stands : IsUnlawful facts_of (meaning read) law list index
   pub fault_is : ran.fault ≡ Some (error.Unlawful law list index)
 
 -- the definition is out of range or has no body
 pub record HasNoBody (words : List (List ℕ)) (e : Ends) (ran : Ran) : Type 0 where
   pub found : HasFacts words e ran
-  pub no_body : HasBody found.raw found.def → ⊥
+  pub no_body : LacksBody found.request found.raw
 
 -- the source gave more than is read
 pub record IsTooLong (e : Ends) : Type 0 where
@@ -191,27 +147,29 @@ pub record IsTooLong (e : Ends) : Type 0 where
 abbrev pub has_facts : ℕ → Bool
 has_facts n = nat_le n 1 || (n == 4 || n == 9)
 
-abbrev pub has_table : ℕ → Bool
-has_table n = nat_le n 1 || n == 4
+-- of one definition that is asked for
+abbrev pub has_table : Request → ℕ → Bool
+has_table r n = (nat_le n 1 || n == 4) && keeps_table r
 
 abbrev pub has_fault : ℕ → Bool
 has_fault n = nat_le 5 n && nat_le n 8
 
 -- What a run did, by the status that it ended with.
 pub record Outcome (words : List (List ℕ)) (e : Ends) (ran : Ran) : Type 0 where
-  pub no_command : (ran.status ≡ 2) ↔ ((d : DefWithBodyId) → IsCommand words d → ⊥)
+  pub no_command : (ran.status ≡ 2) ↔ ((r : Request) → IsAsked words r → ⊥)
   pub unread : ran.status ≡ 2 → Keeps e.left e.left_new
   pub done : ran.status ≤ 1 → Reported words e ran
   pub source : ran.status ≡ 3 → SourceFailed e
   pub sink : ran.status ≡ 4 → SinkFailed words e ran
   pub memory : ran.status ≡ 5 → ran.fault ≡ Some error.OutOfMemory
-  pub json : ran.status ≡ 6 → IsNoJson e ran
-  pub misshapen : ran.status ≡ 7 → IsMisshapen e ran
-  pub unlawful : ran.status ≡ 8 → BreaksLaw e ran
+  pub json : ran.status ≡ 6 → IsNoJson words e ran
+  pub misshapen : ran.status ≡ 7 → IsMisshapen words e ran
+  pub unlawful : ran.status ≡ 8 → BreaksLaw words e ran
   pub body : ran.status ≡ 9 → HasNoBody words e ran
   pub long : ran.status ≡ 10 → IsTooLong e
   pub silent : 2 ≤ ran.status → (ran.status ≡ 4 → ⊥) → Keeps e.written e.written_new
   pub kinds : ran.status ≤ 10
   pub facts : is_some ran.facts ≡ has_facts ran.status
-  pub table : is_some ran.table ≡ has_table ran.status
+  pub table : (r : Request) → IsAsked words r → is_some ran.table ≡ has_table r ran.status
+  pub no_table : ran.status ≡ 2 → ran.table ≡ None
   pub fault : is_some ran.fault ≡ has_fault ran.status

@@ -3,6 +3,8 @@
 
 mod ends;
 mod running;
+mod session;
+mod table;
 mod words;
 
 pub use ends::{

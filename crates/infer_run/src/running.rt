@@ -2,21 +2,23 @@
 ghost use Rattle.std.specs.Prelude.{◌≡◌, ◌<◌, ◌≤◌, ◌+◌, ℕ, List, length, map, IfOk, OnOk, OnErr, IsErrOf, Some};
 ghost use Rattle.std.specs.Io.KnownBytes.{Appends, Consumes, IsAtEnd};
 ghost use Rattle.std.specs.Rc.{rc_str_bytes};
-ghost use Rattle.hir_facts.specs.Bodies.{HasBody};
-ghost use Rattle.infer_result.specs.Typed.{IsTableOf};
-ghost use Rattle.infer_result.specs.General.{HasGeneral};
+ghost use Rattle.infer_run.specs.declared.words.Request.TheVariants as request;
+ghost use Rattle.hir_types.specs.declared.ids.DefWithBodyId.{DefWithBodyId};
+ghost use Rattle.infer_run.specs.Answer.{Answered, AnsweredText, silence, refusal};
 ghost use Rattle.infer_run.specs.Causes.{Rose, HasCause};
-ghost use Rattle.infer_run.specs.Outcome.{AppendsFront, HasGoals, IsReadThrough, HasWritten, HasAskedProofs, HasFitEntries, IsSelectedTable, Outcome, between};
 ghost use Rattle.infer_run.specs.Exactly.{Exactly};
-ghost use Rattle.infer_run.specs.Answer.{Answered, silence, refusal};
+ghost use Rattle.infer_run.specs.Outcome.{AppendsFront, Outcome, between};
+ghost use Rattle.infer_run.specs.Request.{IsDue, status_by};
+ghost use Rattle.infer_run.specs.declared.words.Request.{Request};
 
 use crate::ends::{Failed, Sink, Source};
-use crate::words::command;
+use crate::session::session_text;
+use crate::table::infer;
+use crate::words::{Request, asked};
 use hir_facts::{DefWithBodyId, Facts};
-use infer_expr::{ToldList, infer_query_with_inspect};
 use infer_report::{count_complaints, write_report};
 use infer_result::InferenceResult;
-use infer_text::{ReadError, read_facts};
+use infer_text::{ReadError, read_facts, read_session};
 use std::alloc::{AllocError, Global};
 use std::rc::RcStr;
 
@@ -29,8 +31,8 @@ pub struct Ran {
     pub status: u8,
     /// The facts, where they are lawful and memory sufficed.
     pub facts: Option<Facts>,
-    /// The table of the definition's body, where it has one. Of a plain body it has the types before
-    /// open holes fell back too.
+    /// The table of the definition's body, where one definition is asked for and has a body. Of a plain body
+    /// it has the types before open holes fell back too.
     pub table: Option<InferenceResult>,
     /// Why there are no facts.
     pub fault: Option<ReadError>,
@@ -124,44 +126,32 @@ fn refused(fault: ReadError) -> Ran
     }
 }
 
-/// Writes the report on a table.
-fn report_on<K: Sink>(
-    alloc: Global,
-    def: DefWithBodyId,
-    facts: Facts,
-    table: InferenceResult,
+/// Writes a text that is due for facts, in which something is complained of or not.
+fn finish<K: Sink>(
     sink: &mut K,
+    text: &str,
+    complains: bool,
+    facts: Facts,
+    table: Option<InferenceResult>,
 ) -> Ran
-    requires has_body { HasBody facts def }
-    requires typed { IsTableOf facts def table }
-    requires general { HasGeneral facts def table }
-    requires goals { HasGoals facts def table }
-    requires left { IsReadThrough facts def table }
-    requires written { HasWritten facts def table }
-    requires roots { HasAskedProofs facts def table }
-    requires fit { HasFitEntries facts def table }
-    requires selected { IsSelectedTable facts def table }
-    ensures { Answered def facts (K.written sink.old) (K.written sink.new) (K.faults sink.old) (K.faults sink.new) result }
+    ensures { (r : Request) (defs : List DefWithBodyId) → IsDue r facts defs table text.now (status_by complains)
+        → Answered r facts defs (K.written sink.old) (K.written sink.new) (K.faults sink.old) (K.faults sink.new) result }
 {
-    let text = match write_report(alloc, def, &facts, &table) {
-        Ok(text) => text,
-        Err(AllocError) => return refused(ReadError::OutOfMemory),
-    };
     let status = match write_all(sink, text.as_bytes()) {
+        Ok(()) => u8::from(complains),
         Err(Failed) => 4,
-        Ok(()) => { if count_complaints(&table) > 0 { 1 } else { 0 } }
     };
     Ran {
         status,
         facts: Some(facts),
-        table: Some(table),
+        table,
         fault: None,
     }
 }
 
 /// Infers a definition's table, and writes the report on it.
-fn answer<K: Sink>(alloc: Global, def: DefWithBodyId, facts: Facts, sink: &mut K) -> Ran
-    ensures { Answered def facts (K.written sink.old) (K.written sink.new) (K.faults sink.old) (K.faults sink.new) result }
+fn answer_table<K: Sink>(alloc: Global, def: DefWithBodyId, facts: Facts, sink: &mut K) -> Ran
+    ensures { (defs : List DefWithBodyId) → Answered (request.Table def) facts defs (K.written sink.old) (K.written sink.new) (K.faults sink.old) (K.faults sink.new) result }
 {
     if !facts.has_body(def) {
         return Ran {
@@ -171,14 +161,46 @@ fn answer<K: Sink>(alloc: Global, def: DefWithBodyId, facts: Facts, sink: &mut K
             fault: None,
         };
     }
-    match infer_query_with_inspect::<ToldList>(alloc, &facts, def, None) {
-        Ok(table) => report_on(alloc, def, facts, table, sink),
+    let table = match infer(alloc, &facts, def) {
+        Ok(table) => table,
+        Err(AllocError) => return refused(ReadError::OutOfMemory),
+    };
+    let complains = count_complaints(&table) > 0;
+    match write_report(alloc, def, &facts, &table) {
+        Ok(text) => finish(sink, text.as_str(), complains, facts, Some(table)),
         Err(AllocError) => refused(ReadError::OutOfMemory),
     }
 }
 
+/// Infers the tables of these definitions, and writes the reports on them.
+fn answer_session<K: Sink>(alloc: Global, facts: Facts, defs: &[DefWithBodyId], sink: &mut K) -> Ran
+    ensures { Answered request.Session facts defs.now (K.written sink.old) (K.written sink.new) (K.faults sink.old) (K.faults sink.new) result }
+{
+    match session_text(alloc, &facts, defs) {
+        Ok((text, complains)) => finish(sink, text.as_str(), complains, facts, None),
+        Err(AllocError) => refused(ReadError::OutOfMemory),
+    }
+}
+
+/// Reads what is asked for, and answers it.
+fn answer<K: Sink>(alloc: Global, request: Request, text: &[u8], sink: &mut K) -> Ran
+    ensures { AnsweredText request text.now (K.written sink.old) (K.written sink.new) (K.faults sink.old) (K.faults sink.new) result }
+{
+    match request {
+        Request::Table(def) => match read_facts(alloc, text) {
+            Ok(facts) => answer_table(alloc, def, facts, sink),
+            Err(fault) => refused(fault),
+        },
+        Request::Session => match read_session(alloc, text) {
+            Ok((facts, defs)) => answer_session(alloc, facts, defs.as_slice(), sink),
+            Err(fault) => refused(fault),
+        },
+    }
+}
+
 /// Does what the words ask for: `table KIND N` reads facts, infers the table of a definition's
-/// body, and writes the report on it.
+/// body, and writes the report on it; `session` reads facts with the definitions that are asked for, and writes
+/// the reports on all their tables.
 pub fn run<S: Source, K: Sink>(alloc: Global, words: &[RcStr], source: &mut S, sink: &mut K) -> Ran
     ensures outcome { Outcome (map rc_str_bytes words.now)
         (between S.left S.faults K.written K.faults source.old source.new sink.old sink.new) result }
@@ -198,7 +220,7 @@ fn run_command<S: Source, K: Sink>(
     ensures { Outcome (map rc_str_bytes words.now)
         (between S.left S.faults K.written K.faults source.old source.new sink.old sink.new) result }
 {
-    let Some(def) = command(words) else {
+    let Some(request) = asked(words) else {
         return ended(2);
     };
     let text = match read_all(alloc, source) {
@@ -207,8 +229,5 @@ fn run_command<S: Source, K: Sink>(
         Err(Stopped::TooLong) => return ended(10),
         Err(Stopped::OutOfMemory) => return refused(ReadError::OutOfMemory),
     };
-    match read_facts(alloc, &text) {
-        Ok(facts) => answer(alloc, def, facts, sink),
-        Err(fault) => refused(fault),
-    }
+    answer(alloc, request, &text, sink)
 }

@@ -15,7 +15,7 @@ const LET_REPORT: &str = "fn 0\ne0 u8\ne1 u8\ne2 u8\np0 u8 move\nb0 u8\ncomplain
 const NO_JSON: &str = "6 the text is no JSON in UTF-8, or nests more than 127 arrays and objects";
 
 const AT_TOP: &str =
-    "7 the whole text has another shape: an object with exactly the 18 keys of docs/FORMAT.md is wanted";
+    "7 the whole text has another shape: an object with exactly the 18 keys of docs/FORMAT.md, or for `session` with `facts` and `commands`, is wanted";
 
 const DEEP_BODY: &str =
     "8 law 5 is broken at bodies[0]: lists are not too long, and trees and types not too deep or too large";
@@ -75,6 +75,37 @@ fn check_ends(rt: &(impl Eprint + AllocGlobal), text: &str, checks: &mut Checks)
         ..PLAIN
     };
     check_text(rt, &unread, text.as_bytes(), "3", "", checks)
+}
+
+/// Fails the ends of a session, and gives it more than is read.
+fn check_session(
+    rt: &(impl Eprint + AllocGlobal),
+    text: &str,
+    checks: &mut Checks,
+) -> io::Result<()> {
+    let alloc = rt.alloc();
+    let mut asked = String::from_str(alloc, "{\"facts\":")?;
+    asked.push_str(text)?;
+    asked.push_str(",\"commands\":[[\"table\",\"fn\",0]]}")?;
+    let cut = Way {
+        words: "session",
+        most: 8,
+        sink_fails: &[1],
+        ..PLAIN
+    };
+    check_text(rt, &cut, asked.as_bytes(), "4", "fn 0\ne0 ", checks)?;
+    let unread = Way {
+        words: "session",
+        source_fails: &[0],
+        ..PLAIN
+    };
+    check_text(rt, &unread, asked.as_bytes(), "3", "", checks)?;
+    let long = Way {
+        words: "session",
+        ..PLAIN
+    };
+    let spaces = vec![in alloc; b' '; 16_777_217]?;
+    check_text(rt, &long, &spaces, "10", "", checks)
 }
 
 /// As many brackets, one in another.
@@ -197,6 +228,7 @@ pub fn check(
     put(rt.alloc(), &mut text, "\"$body\"", LET)?;
     check_cut_off(rt, text.as_str(), checks)?;
     check_ends(rt, text.as_str(), checks)?;
+    check_session(rt, text.as_str(), checks)?;
     check_depths(rt, text.as_str(), checks)?;
     check_sizes(rt, text.as_str(), checks)?;
     check_text(rt, &PLAIN, b"{\"a\":\"\xff\"}", NO_JSON, "", checks)

@@ -96,17 +96,21 @@ abbrev pub shaped : {A : Type 0} → Result A (List ℕ) → Result A Fault
 shaped (Ok x) = Ok x
 shaped (Err path) = Err (shape path)
 
-abbrev pub facts_of : Option Data → Result RawFacts Fault
-facts_of None = Err no_json
-facts_of (Some d) = shaped (facts_in d)
+abbrev pub shaped_by : {A : Type 0} → (Data → Result A (List ℕ)) → Option Data → Result A Fault
+shaped_by f None = Err no_json
+shaped_by f (Some d) = shaped (f d)
+
+-- what a text stands for, by what its value does, or its first fault
+abbrev pub meaning_by : {A : Type 0} → (Data → Result A (List ℕ)) → List ℕ → Result A Fault
+meaning_by f text = if is_utf8 text then shaped_by f (read text) else Err no_json
 
 -- the facts that a text stands for, or its first fault
 abbrev pub raw_facts : List ℕ → Result RawFacts Fault
-raw_facts text = if is_utf8 text then facts_of (read text) else Err no_json
+raw_facts = meaning_by facts_in
 
 -- What was answered is what the text stands for, unless memory ran out.
-abbrev pub Answers : Result RawFacts ReadError → Result RawFacts Fault → Type 0
-Answers (Ok f) meaning = meaning ≡ Ok f
+abbrev pub Answers : {A : Type 0} → Result A ReadError → Result A Fault → Type 0
+Answers (Ok x) meaning = meaning ≡ Ok x
 Answers (Err error.OutOfMemory) meaning = Unit {0}
 Answers (Err error.Json) meaning = meaning ≡ Err no_json
 Answers (Err (error.Shape path)) meaning = meaning ≡ Err (shape path)
@@ -114,21 +118,21 @@ Answers (Err (error.Unlawful law list index)) meaning = ⊥
 
 -- ---- the laws
 
--- the text stands for these facts, and they are lawful
-pub record IsRead (text : List ℕ) (f : RawFacts) : Type 0 where
-  pub stands : raw_facts text ≡ Ok f
-  pub lawful : IsLawful f
+-- a text stands for this, and the facts in it are lawful
+pub record IsRead {A : Type 0} (facts : A → RawFacts) (meaning : Result A Fault) (x : A) : Type 0 where
+  pub stands : meaning ≡ Ok x
+  pub lawful : IsLawful (facts x)
 
--- the text stands for facts of which this law is the first broken one
-pub record IsUnlawful (text : List ℕ) (law : Law) (list : FactsList) (index : ℕ) : Type 0 where
-  pub raw : RawFacts
-  pub stands : raw_facts text ≡ Ok raw
-  pub first : FirstBroken raw tests law list index
+-- it stands for something of whose facts this law is the first broken one
+pub record IsUnlawful {A : Type 0} (facts : A → RawFacts) (meaning : Result A Fault) (law : Law) (list : FactsList) (index : ℕ) : Type 0 where
+  pub broken : A
+  pub stands : meaning ≡ Ok broken
+  pub first : FirstBroken (facts broken) tests law list index
 
--- What was answered is what the text stands for where that is lawful, unless memory ran out.
-abbrev pub Reads : Result RawFacts ReadError → List ℕ → Type 0
-Reads (Ok f) text = IsRead text f
-Reads (Err error.OutOfMemory) text = Unit {0}
-Reads (Err error.Json) text = raw_facts text ≡ Err no_json
-Reads (Err (error.Shape path)) text = raw_facts text ≡ Err (shape path)
-Reads (Err (error.Unlawful law list index)) text = IsUnlawful text law list index
+-- What was answered is what the text stands for where its facts are lawful, unless memory ran out.
+abbrev pub Reads : {A : Type 0} → (A → RawFacts) → Result A ReadError → Result A Fault → Type 0
+Reads facts (Ok x) meaning = IsRead facts meaning x
+Reads facts (Err error.OutOfMemory) meaning = Unit {0}
+Reads facts (Err error.Json) meaning = meaning ≡ Err no_json
+Reads facts (Err (error.Shape path)) meaning = meaning ≡ Err (shape path)
+Reads facts (Err (error.Unlawful law list index)) meaning = IsUnlawful facts meaning law list index

@@ -5,5 +5,6 @@ pub mod Entries
 pub mod Bodies
 pub mod Facts
 pub mod Abstract
+pub mod Session
 pub mod Words
 pub mod Own

@@ -4,6 +4,7 @@ pub use Rattle.hir_types.specs.declared.ids.AdtId.{AdtId}
 pub use Rattle.hir_types.specs.declared.ids.BindingId.{BindingId}
 pub use Rattle.hir_types.specs.declared.ids.BodyId.{BodyId}
 pub use Rattle.hir_types.specs.declared.ids.ConstId.{ConstId}
+pub use Rattle.hir_types.specs.declared.ids.DefWithBodyId.{DefWithBodyId}
 pub use Rattle.hir_types.specs.declared.ids.ExprId.{ExprId}
 pub use Rattle.hir_types.specs.declared.ids.FunctionId.{FunctionId}
 pub use Rattle.hir_types.specs.declared.ids.LabelId.{LabelId}

@@ -1,7 +1,7 @@
 //! Reading the facts of a text.
-ghost use Rattle.std.specs.Prelude.{List, Result, Some};
+ghost use Rattle.std.specs.Prelude.{List, Result, Some, Ok};
 ghost use Rattle.serde_json.specs.View.{view};
-ghost use Rattle.infer_text.specs.Own.{settings_in, items_in, abstractions_in, facts_in, facts_of, raw_facts, Answers, Reads};
+ghost use Rattle.infer_text.specs.Own.{settings_in, items_in, abstractions_in, facts_in, shaped_by, meaning_by, raw_facts, Answers, Reads};
 
 use super::abstractions::Lang;
 use super::fault::{Misread, ReadError};
@@ -141,22 +141,22 @@ impl FromData for RawFacts {
     }
 }
 
-fn facts_from(alloc: Global, value: &Value) -> Result<RawFacts, ReadError>
-    ensures { Answers result (facts_of (Some (view value.now))) }
+fn read_value<T: FromData>(alloc: Global, value: &Value) -> Result<T, ReadError>
+    ensures { Answers result (shaped_by T.reads (Some (view value.now))) }
 {
-    match RawFacts::from_data(alloc, value) {
-        Ok(facts) => Ok(facts),
+    match T::from_data(alloc, value) {
+        Ok(x) => Ok(x),
         Err(Misread::OutOfMemory) => Err(ReadError::OutOfMemory),
         Err(Misread::Shape { path }) => Err(ReadError::Shape { path }),
     }
 }
 
-/// The facts that a text stands for, whether or not they keep the laws.
-fn read_raw(alloc: Global, text: &[u8]) -> Result<RawFacts, ReadError>
-    ensures { Answers result (raw_facts text.now) }
+/// What a text stands for, whether or not its facts keep the laws.
+pub fn read_raw<T: FromData>(alloc: Global, text: &[u8]) -> Result<T, ReadError>
+    ensures { Answers result (meaning_by T.reads text.now) }
 {
     match Value::from_slice(alloc, text) {
-        Ok(value) => facts_from(alloc, &value),
+        Ok(value) => read_value(alloc, &value),
         Err(e) => match e.classify() {
             Category::Memory => Err(ReadError::OutOfMemory),
             _ => Err(ReadError::Json),
@@ -164,15 +164,22 @@ fn read_raw(alloc: Global, text: &[u8]) -> Result<RawFacts, ReadError>
     }
 }
 
-/// The lawful facts that a text stands for: docs/FORMAT.md. The error says why there are none: the text
-/// is no JSON, another shape is wanted at a path, a law is broken, or memory wants.
-pub fn read_facts(alloc: Global, text: &[u8]) -> Result<Facts, ReadError>
-    ensures { Reads result text.now }
+/// These facts, where they keep the laws.
+pub fn judge(alloc: Global, raw: RawFacts) -> Result<Facts, ReadError>
+    ensures { Reads (λ f. f) result (Ok raw) }
 {
-    let raw = read_raw(alloc, text)?;
     match lawful_facts(alloc, raw) {
         Ok(facts) => Ok(facts),
         Err(FactsError::Law { law, list, index }) => Err(ReadError::Unlawful { law, list, index }),
         Err(FactsError::OutOfMemory) => Err(ReadError::OutOfMemory),
     }
+}
+
+/// The lawful facts that a text stands for: docs/FORMAT.md. The error says why there are none: the text
+/// is no JSON, another shape is wanted at a path, a law is broken, or memory wants.
+pub fn read_facts(alloc: Global, text: &[u8]) -> Result<Facts, ReadError>
+    ensures { Reads (λ f. f) result (raw_facts text.now) }
+{
+    let raw: RawFacts = read_raw(alloc, text)?;
+    judge(alloc, raw)
 }

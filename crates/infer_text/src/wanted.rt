@@ -1,4 +1,4 @@
-//! What a facts text has to have at a path, in words.
+//! What a text has to have at a path, in words.
 
 use crate::wanted_traits::wanted_of_traits;
 
@@ -28,10 +28,30 @@ const VIS: &str = "\"pub\" or a module's number";
 
 const MAYBE_BODY: &str = "a body's number, or null";
 
-static PLACES: [Wanted; 88] = [
+static PLACES: [Wanted; 93] = [
     Wanted {
         path: b"",
+        what: "an object with exactly the 18 keys of docs/FORMAT.md, or for `session` with `facts` and `commands`,",
+    },
+    Wanted {
+        path: b"facts",
         what: "an object with exactly the 18 keys of docs/FORMAT.md",
+    },
+    Wanted {
+        path: b"commands",
+        what: ANY_LIST,
+    },
+    Wanted {
+        path: b"commands.#",
+        what: "[\"table\", KIND, N], the one command that is carried yet,",
+    },
+    Wanted {
+        path: b"commands.#.1",
+        what: "\"fn\", \"const\", \"static\" or \"variant\"",
+    },
+    Wanted {
+        path: b"commands.#.2",
+        what: NUMBER,
     },
     Wanted {
         path: b"profile",
@@ -415,14 +435,15 @@ pub fn fits(pattern: &[u8], path: &[u8]) -> bool {
     rest.is_empty()
 }
 
-/// What a facts text has to have at a path.
+/// What a text has to have at a path: facts, or those of a session, below the key `facts`.
 pub fn wanted_at(path: &str) -> &'static str {
+    let path = path.strip_prefix("facts.").unwrap_or(path).as_bytes();
     for place in &PLACES {
-        if fits(place.path, path.as_bytes()) {
+        if fits(place.path, path) {
             return place.what;
         }
     }
-    match wanted_of_traits(path.as_bytes()) {
+    match wanted_of_traits(path) {
         Some(what) => what,
         None => "a part of the kind that docs/FORMAT.md names",
     }

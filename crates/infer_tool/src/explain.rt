@@ -114,27 +114,48 @@ fn told_json(alloc: Global, bytes: &[u8], error: &Error) -> Result<Option<String
     Ok(Some(told))
 }
 
-fn told(alloc: Global, bytes: &[u8], fault: &ReadError) -> Result<Option<String>, AllocError> {
+fn told(
+    alloc: Global,
+    bytes: &[u8],
+    fault: &ReadError,
+    is_session: bool,
+) -> Result<Option<String>, AllocError> {
     if matches!(fault, ReadError::OutOfMemory) {
         return Ok(None);
     }
-    let facts = match Value::from_slice(alloc, bytes) {
-        Ok(facts) => facts,
+    let value = match Value::from_slice(alloc, bytes) {
+        Ok(value) => value,
         Err(error) => return told_json(alloc, bytes, &error),
     };
     match fault {
         ReadError::Json | ReadError::OutOfMemory => Ok(None),
         ReadError::Shape { path } => {
             let words = fault.to_string(alloc)?;
-            told_shape(alloc, &facts, path.as_str(), words.as_str())
+            told_shape(alloc, &value, path.as_str(), words.as_str(), is_session)
         }
-        ReadError::Unlawful { law, list, index } => told_breach(alloc, &facts, *law, *list, *index),
+        ReadError::Unlawful { law, list, index } => {
+            let facts = if is_session {
+                value.get("facts")
+            } else {
+                Some(&value)
+            };
+            match facts {
+                None => Ok(None),
+                Some(facts) => told_breach(alloc, facts, *law, *list, *index),
+            }
+        }
     }
 }
 
-/// Why these bytes stand for no lawful facts: what they have at the fault, or the fault's own words.
-pub fn explain(alloc: Global, bytes: &[u8], fault: &ReadError) -> Result<String, AllocError> {
-    match told(alloc, bytes, fault)? {
+/// Why these bytes, facts or the text of a session, stand for no lawful facts: what they have at the fault, or the
+/// fault's own words.
+pub fn explain(
+    alloc: Global,
+    bytes: &[u8],
+    fault: &ReadError,
+    is_session: bool,
+) -> Result<String, AllocError> {
+    match told(alloc, bytes, fault, is_session)? {
         Some(told) => Ok(told),
         None => fault.to_string(alloc),
     }

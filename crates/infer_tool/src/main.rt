@@ -18,9 +18,10 @@ use std::{env, io};
 use words::{told_definition, told_words};
 
 const USAGE: &str =
-    "usage: infer_tool table KIND N, where KIND is fn, const, static or variant, and N a number; facts are read from standard input";
+    "usage: infer_tool table KIND N, where KIND is fn, const, static or variant, and N a number, or infer_tool session; facts are read from standard input";
 
 const HELP: &str = "infer_tool table KIND N
+infer_tool session
 
 Reads the facts of a crate from standard input, as JSON, infers the types of the body of
 one definition, and writes a report on standard output. KIND is fn, const, static or
@@ -31,10 +32,14 @@ The types of the first function of facts.json:
 
     infer_tool table fn 0 < facts.json
 
+With session the input is an object, {\"facts\": FACTS, \"commands\": [[\"table\", KIND, N], ..]}.
+The report on each definition is written, or the line no body, and in the end how many
+were inferred.
+
 --help prints this, and --version the version. Standard error says in a sentence what
 went wrong.
 
-Status: 0 no complaint, 1 a complaint, 2 wrong words, 3 input failed, 4 output failed,
+Status: 0 no complaint, 1 a complaint (in a session a definition without body too), 2 wrong words, 3 input failed, 4 output failed,
 5 not enough memory, 6 no JSON, 7 another shape is wanted, 8 a law is broken, 9 no body,
 10 more than 16777216 bytes";
 
@@ -56,6 +61,11 @@ fn answer(words: &[RcStr]) -> Option<&'static str> {
         [word] if word.as_str() == "--version" => Some(VERSION),
         _ => None,
     }
+}
+
+/// Whether the words ask for a session.
+fn is_session(words: &[RcStr]) -> bool {
+    matches!(words, [word] if word.as_str() == "session")
 }
 
 /// Prints on standard output, and says how that ended.
@@ -87,7 +97,7 @@ fn sentence(
 ) -> Result<Option<String>, AllocError> {
     if let Some(fault) = &ran.fault {
         let told = match bytes {
-            Some(bytes) => explain(alloc, bytes, fault)?,
+            Some(bytes) => explain(alloc, bytes, fault, is_session(words))?,
             None => fault.to_string(alloc)?,
         };
         return Ok(Some(told));

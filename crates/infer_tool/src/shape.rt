@@ -40,12 +40,29 @@ fn is_field(rest: &str) -> bool {
 }
 
 /// Whether an object that stands at a path has a key.
-fn has_key(path: &str, key: &str) -> bool {
-    wanted_keys(path).iter().any(|wanted| *wanted == key)
+fn has_key(path: &str, is_session: bool, key: &str) -> bool {
+    wanted_keys(path, is_session)
+        .iter()
+        .any(|wanted| *wanted == key)
 }
 
 /// The keys of the object that is wanted at a path; none where no object is.
-fn wanted_keys(path: &str) -> &'static [&'static str] {
+fn wanted_keys(path: &str, is_session: bool) -> &'static [&'static str] {
+    if !is_session {
+        return wanted_of_facts(path);
+    }
+    match path {
+        "" => &["facts", "commands"],
+        "facts" => wanted_of_facts(""),
+        _ => match path.strip_prefix("facts.") {
+            Some(inner) => wanted_of_facts(inner),
+            None => &[],
+        },
+    }
+}
+
+/// The same of facts.
+fn wanted_of_facts(path: &str) -> &'static [&'static str] {
     if path.is_empty() {
         return &[
             "profile",
@@ -94,8 +111,8 @@ fn wanted_keys(path: &str) -> &'static [&'static str] {
 }
 
 /// The first key that an object lacks.
-fn missing(object: &Map<String, Value>, path: &str) -> Option<&'static str> {
-    for key in wanted_keys(path) {
+fn missing(object: &Map<String, Value>, path: &str, is_session: bool) -> Option<&'static str> {
+    for key in wanted_keys(path, is_session) {
         if !object.contains_key(*key) {
             return Some(*key);
         }
@@ -104,9 +121,9 @@ fn missing(object: &Map<String, Value>, path: &str) -> Option<&'static str> {
 }
 
 /// The first key that an object has too much.
-fn surplus<'a>(object: &'a Map<String, Value>, path: &str) -> Option<Quoted<'a>> {
+fn surplus<'a>(object: &'a Map<String, Value>, path: &str, is_session: bool) -> Option<Quoted<'a>> {
     for key in object.keys() {
-        if !has_key(path, key.as_str()) {
+        if !has_key(path, is_session, key.as_str()) {
             return Some(Quoted(key.as_str()));
         }
     }
@@ -117,10 +134,14 @@ fn surplus<'a>(object: &'a Map<String, Value>, path: &str) -> Option<Quoted<'a>>
 fn told_keys(
     alloc: Global,
     path: &str,
+    is_session: bool,
     object: &Map<String, Value>,
 ) -> Result<Option<String>, AllocError> {
     let at = At(path);
-    let told = match (missing(object, path), surplus(object, path)) {
+    let told = match (
+        missing(object, path, is_session),
+        surplus(object, path, is_session),
+    ) {
         (None, None) => return Ok(None),
         (Some(lacks), None) => format!(in alloc; "{at} has no key `{lacks}`")?,
         (None, Some(more)) => format!(in alloc;
@@ -166,24 +187,35 @@ fn shown(alloc: Global, value: &Value) -> Result<String, AllocError> {
     }
 }
 
+/// What is wanted at a path, of the command's text alone.
+fn told_wanted<'a>(path: &str, is_session: bool, wanted: &'a str) -> &'a str {
+    match (path, is_session) {
+        ("", true) => "an object with exactly the keys `facts` and `commands` is wanted",
+        ("", false) => "an object with exactly the 18 keys of docs/FORMAT.md is wanted",
+        _ => wanted,
+    }
+}
+
 /// What stands at a path where another shape is wanted, of which the fault's own words tell.
 pub fn told_shape(
     alloc: Global,
-    facts: &Value,
+    whole: &Value,
     path: &str,
     fault: &str,
+    is_session: bool,
 ) -> Result<Option<String>, AllocError> {
-    let Some(value) = value_at(facts, path) else {
+    let Some(value) = value_at(whole, path) else {
         return Ok(None);
     };
     if let Some(object) = value.as_object()
-        && let Some(told) = told_keys(alloc, path, object)?
+        && let Some(told) = told_keys(alloc, path, is_session, object)?
     {
         return Ok(Some(told));
     }
     match fault.split_once(" has another shape: ") {
         None => Ok(None),
         Some((_, wanted)) => {
+            let wanted = told_wanted(path, is_session, wanted);
             let at = At(path);
             let value = shown(alloc, value)?;
             let told = format!(in alloc; "{at} is {value}, and {wanted}")?;

@@ -13,6 +13,7 @@ fn meant_command(word: &str) -> Option<&'static str> {
         "-h" | "-help" | "help" | "-?" | "?" | "usage" | "--usage" => Some("--help"),
         "-V" | "-v" | "-version" | "version" => Some("--version"),
         "Table" | "TABLE" | "tables" | "-table" | "--table" => Some("table"),
+        "Session" | "SESSION" | "sessions" | "-session" | "--session" => Some("session"),
         "fn" => Some("table fn"),
         "const" => Some("table const"),
         "static" => Some("table static"),
@@ -45,7 +46,7 @@ fn is_digits(word: &str) -> bool {
 fn told_first(alloc: Global, word: &str) -> Result<String, AllocError> {
     match meant_command(word) {
         Some(meant) => format!(in alloc; "`{word}` is no command: did you mean `{meant}`?"),
-        None => format!(in alloc; "`{word}` is no command: `table` is wanted"),
+        None => format!(in alloc; "`{word}` is no command: `table` or `session` is wanted"),
     }
 }
 
@@ -71,8 +72,8 @@ fn told_number(alloc: Global, word: &str) -> Result<String, AllocError> {
 /// Which of the words is wrong, of words that are no command.
 fn told(alloc: Global, words: &[RcStr]) -> Result<String, AllocError> {
     match words {
-        [] => String::from_str(alloc, "the command is missing: table KIND N"),
-        [first, second, ..] if matches!(first.as_str(), "--help" | "--version") => {
+        [] => String::from_str(alloc, "the command is missing: table KIND N, or session"),
+        [first, second, ..] if matches!(first.as_str(), "--help" | "--version" | "session") => {
             let (first, second) = (first.as_str(), second.as_str());
             format!(in alloc; "`{second}` is too much: `{first}` stands alone")
         }
