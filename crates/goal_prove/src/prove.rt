@@ -227,9 +227,10 @@ fn prove_by_impl(
     sources.facts().lawful();
     let listed = sources_of(sources)?;
     let item = sources.facts().impl_(id);
-    let args = fill_args(alloc, found.fills.as_slice(), item.params.len())?;
     let rule = &listed.rules.as_slice()[found.place];
-    let holes = Holes::Filled(found.fills.as_slice());
+    let fills = found.fills.as_slice();
+    let args = fill_args(alloc, fills, &rule.head.parts, item.params.len())?;
+    let holes = Holes::Filled(fills);
     let preds = rule.preds.as_slice();
     let children = prove_all(alloc, sources, search, preds, holes, depth, since, proofs)?;
     push_proof(alloc, goal, ProofSource::Impl(id, args), children, proofs)

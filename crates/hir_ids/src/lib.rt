@@ -11,13 +11,13 @@ mod ids;
 mod namers;
 mod projections;
 mod saying;
+mod saying_later;
 mod test;
 
 pub use adt_ids::{AdtIds, VariantIds};
 pub use body_ids::{BodyIds, binding_of};
 pub use carried::{
-    AdtsCarried, BodiesCarried, FnsCarried, TypesCarried, VariantsCarried, are_type_params,
-    first_other,
+    AdtsCarried, FnsCarried, TypesCarried, VariantsCarried, are_type_params, first_other,
 };
 pub use carried_goals::{AliasesCarried, ImplsCarried, LangCarried, TraitsCarried, carries_goals};
 pub use goal_ids::{AliasIds, ImplIds, LangIds, TraitIds, have_goal_ids};

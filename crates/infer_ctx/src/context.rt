@@ -44,7 +44,7 @@ fn path_variant(path: RawPath) -> Option<VariantId>
 {
     match path {
         RawPath::Ctor(variant) => Some(variant),
-        RawPath::Local(_) | RawPath::Function(_) | RawPath::Other => None,
+        RawPath::Local(_) | RawPath::Function(_) => None,
     }
 }
 

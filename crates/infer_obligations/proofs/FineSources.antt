@@ -300,19 +300,19 @@ module _ (raw : RawFacts) (law : IsLawful raw) where
   in_impls y h = behind_bounds y (in_last impl_preds_use impls_use y h)
 
   adts_fit : AllHold (λ i a. AdtFits raw a) raw.adts
-  adts_fit = law.all.1.1.1.1.1.1.1.1.1.1.1.1.1.1.1.1.1.1.1.1.1.1.0
+  adts_fit = law.all.1.1.1.1.1.1.1.1.1.1.1.1.1.1.1.1.1.1.1.1.1.0
 
   traits_fit : AllHold (λ i t. TraitFits raw t) raw.traits
-  traits_fit = law.all.1.1.1.1.1.1.1.1.1.1.1.1.1.1.1.1.1.1.1.1.1.1.1.1.1.0
+  traits_fit = law.all.1.1.1.1.1.1.1.1.1.1.1.1.1.1.1.1.1.1.1.1.1.1.1.1.0
 
   impls_fit : AllHold (λ i p. ImplFits raw p) raw.impls
-  impls_fit = law.all.1.1.1.1.1.1.1.1.1.1.1.1.1.1.1.1.1.1.1.1.1.1.1.1.1.1.1.0
+  impls_fit = law.all.1.1.1.1.1.1.1.1.1.1.1.1.1.1.1.1.1.1.1.1.1.1.1.1.1.1.0
 
   traits_exist : AllHold (TraitIdsExist raw) raw.traits
-  traits_exist = law.all.1.1.1.1.1.1.1.1.1.1.1.1.1.1.1.1.1.0
+  traits_exist = law.all.1.1.1.1.1.1.1.1.1.1.1.1.1.1.1.1.0
 
   impls_exist : AllHold (λ i p. ImplIdsExist raw p) raw.impls
-  impls_exist = law.all.1.1.1.1.1.1.1.1.1.1.1.1.1.1.1.1.1.1.1.0
+  impls_exist = law.all.1.1.1.1.1.1.1.1.1.1.1.1.1.1.1.1.1.1.0
 
   adts_exist : (a : ℕ) (x : RawAdt) → slice_get raw.adts a ≡ Some x → GoalsExist raw x.preds
   adts_exist a x at = (adt_ids raw law a x at).preds

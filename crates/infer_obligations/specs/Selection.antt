@@ -4,8 +4,10 @@ use Rattle.infer_obligations.specs.Words.{DefWithBodyId, RawBody, RawFacts, Fell
 
 -- ---- while a body is walked
 
--- under the bound of the facts goals were selected one after another until nothing selects any more, and nothing is recorded
+-- under the bound of the facts goals were selected one after another until nothing selects any more, by what the goals of the item are
+-- answered by, and nothing is recorded
 pub record SelectsAlone (g : Given) (old new : InferenceContext) : Type 0 where
+  pub of_item : IsSystemOf old.goals.sources.facts old.goals.sources.item (system old.goals.sources.sources)
   pub binds : OnlyBinds g old new
   pub went : Went old.goals.sources.facts (system old.goals.sources.sources) true old.goals.table old.goals.obligations new.goals.table new.goals.obligations
   pub none_left : NoneLeft old.goals.sources.facts (system old.goals.sources.sources) true new.goals.table new.goals.obligations

@@ -2,9 +2,7 @@
 //! the arguments of each call, and at the end.
 #![tactic(auto)]
 
-mod hand;
 mod lets;
-mod made;
 mod own;
 mod read;
 mod register;

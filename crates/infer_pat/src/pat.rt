@@ -76,7 +76,7 @@ fn infer_pat(
             )
         }
         RawPat::Path(path) => infer_path_pat(alloc, context, given, pat, *path, expected),
-        RawPat::Other => unreachable!(),
+        RawPat::Later(_) => unreachable!(),
     }
 }
 

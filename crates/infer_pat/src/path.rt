@@ -43,7 +43,6 @@ pub fn infer_expr_path(
             let ty = infer_ctor_path(alloc, context, given, variant)?;
             Ok(ty)
         }
-        RawPath::Other => unreachable!(),
     }
 }
 

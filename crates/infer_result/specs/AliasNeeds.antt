@@ -54,7 +54,6 @@ module _
   path_none (path.Function f) = fn_none f.0 (slice_get raw.fns f.0) refl
   path_none (path.Local v) = refl
   path_none (path.Ctor v) = variant_none v.0 (slice_get raw.variants v.0) refl
-  path_none path.Other = refl
 
   pub none_for_aliases : (x : RawExpr) → alias_goals raw xs x ≡ []
   none_for_aliases (expr.Path p) = path_none p

@@ -208,7 +208,7 @@ fn push_path_goals(
             Some(variant) => push_field_goals(alloc, facts, args, variant, made),
             None => Ok(()),
         },
-        RawPath::Local(_) | RawPath::Other => Ok(()),
+        RawPath::Local(_) => Ok(()),
     }
 }
 

@@ -2,6 +2,7 @@
 #![tactic(auto)]
 
 pub mod look;
+pub mod mentions;
 pub mod nodes;
 pub mod place;
 
