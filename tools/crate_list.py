@@ -12,7 +12,7 @@ import re
 import sys
 
 TOP = os.path.join(os.path.dirname(os.path.abspath(__file__)), "..")
-MOST_WAYS = 2_000
+MOST_WAYS = 6_500
 
 
 def listed():

@@ -1,10 +1,11 @@
 #!/usr/bin/env python3
-"""Runs the program on random mutations of the examples: each must end with one of its statuses.
+"""Runs the program on random mutations of the examples and of a text with a body of all kinds (all_kinds.py): each must end with
+one of its statuses.
 
-Bytes are flipped, cut out and doubled, keys dropped, numbers changed, lists cut. Of each example the last function is asked for, and
-in a session all its functions and one more, the last of them twice. Prints how often each status came of either, and fails at a
-crash, a hang (10 seconds), a status that is none of the program's, 9 in a session, output at a status that writes none, and a
-last line that isn't the command's.
+Bytes are flipped, cut out and doubled, keys dropped, numbers changed, lists cut, entries of lists put in the place of others. Of each
+example the last function is asked for, and of the text with all kinds any; in a session all functions and one more, the last of them
+twice. Prints how often each status came of either, and fails at a crash, a hang (10 seconds), a status that is none of the program's,
+9 in a session, output at a status that writes none, and a last line that isn't the command's.
 """
 import argparse
 import collections
@@ -16,6 +17,7 @@ import subprocess
 import sys
 from concurrent.futures import ThreadPoolExecutor
 
+import all_kinds
 from program import TOP, NoReport, Program, add_program_options
 
 REPORTS = {0, 1}
@@ -40,7 +42,7 @@ def change(rng, value):
     for step in path[:-1]:
         inside = inside[step]
     old = inside[path[-1]]
-    kind = rng.randrange(6)
+    kind = rng.randrange(7)
     if kind == 0:
         del inside[path[-1]]
     elif kind == 1 and isinstance(old, int) and not isinstance(old, bool):
@@ -50,7 +52,9 @@ def change(rng, value):
     elif kind == 3 and isinstance(old, list):
         inside[path[-1]] = old + old[:1]
     elif kind == 4:
-        inside[path[-1]] = rng.choice([None, True, 0, "", [], {}, "_", ["lit", ["bool", True]]])
+        inside[path[-1]] = rng.choice([None, True, 0, "", [], {}, "_", "missing", ["lit", ["bool", True]], ["t", 0], ["c", "_"]])
+    elif kind == 5 and isinstance(inside, list):
+        inside[path[-1]] = rng.choice(inside)
     elif isinstance(inside, dict):
         inside[rng.choice(["name", "at", "more"])] = old
     return value
@@ -94,6 +98,14 @@ def asked_of(value):
             (["session"], json.dumps(session_of(value)).encode())]
 
 
+def asked_of_all_kinds():
+    """The same of the text with a body of all kinds, for any of its functions."""
+    facts = all_kinds.facts()
+    text = json.dumps(facts).encode()
+    of_one = [(["table", "fn", str(number)], text) for number in range(len(facts["fns"]))]
+    return of_one + [(["session"], json.dumps(session_of(facts)).encode())]
+
+
 def is_fine(words, status, out, err):
     """Whether a run ended as one of its command may."""
     is_session = words == ["session"]
@@ -120,7 +132,7 @@ def main():
     given = parser.parse_args()
     path, rng = program_path(given), random.Random(given.seed)
     examples = [json.load(open(name, encoding="utf-8")) for name in sorted(glob.glob(os.path.join(TOP, "examples", "*.json")))]
-    asked = [pair for value in examples for pair in asked_of(value)]
+    asked = [pair for value in examples for pair in asked_of(value)] + asked_of_all_kinds() * 4
     batch = [(words, mutated(rng, text)) for words, text in (rng.choice(asked) for _ in range(given.count))]
     seen, wrong = collections.Counter(), 0
     with ThreadPoolExecutor(4) as pool:

@@ -3,7 +3,8 @@
 
 From the definitions that the clauses of `run` cite it follows each name to where it is defined, through the imports of
 its file, in `specs/` of each crate. The list is in the order in which a reader comes to them, file by file, with the lines of
-each. Structs and enums of the sources are named too. std and the kit's crates are not followed.
+each; what stands behind the names of `APART` alone comes in parts of its own. Structs and enums of the sources are named too. std and
+the kit's crates are not followed.
 Usage: tools/reading.py            writes docs/READING.md
        tools/reading.py --check    says whether docs/READING.md is as it would be written, with status 1 where it is not
 """
@@ -19,6 +20,17 @@ LIST = os.path.join("docs", "READING.md")
 IMPORT = re.compile(r"(?:unfoldable )?(?:pub )?(?:ghost )?use ([^\s;{}]+?)(?:\.\{([^}]*)\})?(?: as ([^\s;]+))?;?$")
 WORDS = {"pub", "abbrev", "record", "unfoldable", "data"}
 NAME = r"[^\s(){}\[\];,.]+"
+
+# What can be read by itself, and later: a title, what it says, and the definitions that it begins with.
+APART = [
+    ("What a text stands for", "How the JSON text of facts, and that of a session, is read: what stands behind `raw_facts` and `raw_session` alone.",
+     [("Rattle.infer_text.specs.Facts", "raw_facts"), ("Rattle.infer_text.specs.Session", "raw_session")]),
+    ("What is lawful", "The laws that facts have to obey: what stands behind `IsLawful` and the tests of laws alone.",
+     [("Rattle.hir_facts.specs.Lawful", "IsLawful"), ("Rattle.hir_facts.specs.Lawful", "tests"), ("Rattle.hir_facts.specs.Lawful", "FirstBroken")]),
+    ("That goals were selected", "The clause `selected` of `IsPromised`: what stands behind it alone. Without it, what is said of a table by its rules, goals and "
+     "complaints is whole.",
+     [("Rattle.infer_run.specs.Table", "IsSelectedTable")]),
+]
 
 HEAD = """# Reading the theorem
 
@@ -119,10 +131,10 @@ def start():
     return [place for place in cited(text[begin:text.index("\n{", begin)], clauses) if place[0]]
 
 
-def reach(modules):
-    """The definitions that are come to, in order, and the types of the sources that they name."""
-    order, types, waiting = [], [], start()[::-1]
-    done = set()
+def reach(modules, first, done, apart, types):
+    """The definitions that are come to from the first ones, in order, without those that were before and those apart; the types of the
+    sources that they name are added."""
+    order, waiting = [], first[::-1]
     while waiting:
         module, name = place = home(modules, *waiting.pop())
         if ".specs.declared." in module and module.split(".")[1] in crates():
@@ -130,41 +142,54 @@ def reach(modules):
             if kind not in types:
                 types.append(kind)
             continue
-        if module not in modules or place in done:
+        if module not in modules or place in done or place in apart:
             continue
         done.add(place)
         order.append(place)
         own = modules[place[0]]
         lines = "\n".join(own.definitions[place[1]])
         waiting += [(other or place[0], word) for other, word in cited(lines, own)][::-1]
-    return order, types
+    return order
 
 
 def crates():
     return {name for name in os.listdir(os.path.join(TOP, "crates"))}
 
 
-def written(modules):
-    """The text of the list."""
-    order, types = reach(modules)
+def table(modules, order):
+    """How much a part has, and its rows."""
     files, total = {}, 0
     for module, name in order:
         files.setdefault(module, []).append((name, len(modules[module].definitions[name])))
-    rows = []
+    rows, by_crate = [], {}
     for module, names in files.items():
         lines = sum(count for _, count in names)
         total += lines
+        crate = module.split(".")[1]
+        by_crate[crate] = by_crate.get(crate, 0) + lines
         listed = ", ".join("`%s`" % name if count == 1 else "`%s` %d" % (name, count) for name, count in names)
         rows.append("| `%s` | %d | %s |" % (modules[module].path, lines, listed))
-    parts = {}
-    for module, names in files.items():
-        parts.setdefault(module.split(".")[1], []).append(sum(count for _, count in names))
-    by_crate = ", ".join("%d in `%s`" % (sum(lines), crate) for crate, lines in parts.items())
-    summary = "%d definitions in %d files, %d lines; a number behind a name is its lines, where it has more than one.\n\nOf these lines %s.\n\n" % (
-        len(order), len(files), total, by_crate)
-    table = "| File | Lines | Definitions |\n| --- | --- | --- |\n" + "\n".join(rows) + "\n"
+    parts = ", ".join("%d in `%s`" % (lines, crate) for crate, lines in by_crate.items())
+    text = "%d definitions in %d files, %d lines: %s.\n\n" % (len(order), len(files), total, parts)
+    return total, text + "| File | Lines | Definitions |\n| --- | --- | --- |\n" + "\n".join(rows) + "\n"
+
+
+def written(modules):
+    """The text of the list."""
+    done, types, parts = set(), [], []
+    later = {home(modules, *place) for _, _, places in APART for place in places}
+    parts.append(("What is said", "What stands behind the clauses of `run`, but for what comes in the next parts.", reach(modules, start(), done, later, types)))
+    for title, says, places in APART:
+        later -= {home(modules, *place) for place in places}
+        parts.append((title, says, reach(modules, places, done, later, types)))
+    texts, counts = [], []
+    for title, says, order in parts:
+        total, rows = table(modules, order)
+        counts.append("%d lines in *%s*" % (total, title))
+        texts.append("## %s\n\n%s\n%s" % (title, says, rows))
+    summary = "A number behind a name is its lines, where it has more than one. All in all: %s.\n\n" % "; ".join(counts)
     named = "\n## Structs and enums of the sources that they name\n\n" + ", ".join("`%s`" % kind for kind in sorted(types)) + "\n"
-    return HEAD + summary + table + named
+    return HEAD + summary + "\n".join(texts) + named
 
 
 def main():

@@ -19,7 +19,8 @@ IsApart t w = (q s : Fill) → IsFilling s → MayRead q t (apply s w) → ⊥
 -- in each common instance what stands for the holes that `t` tells is an instance of `p`. (Of a goal filled without aliases,
 -- so that the answers at `p` are those at the instance.)
 abbrev pub IsGeneral : Term → Term → Fill → Type 0
-IsGeneral t w p = (q s : Fill) → IsFilling s → MayRead q t (apply s w) → (x : Fill) × IsFilling x × ((k : _) → stands k t ≡ true → q k ≡ apply x (p k))
+IsGeneral t w p = (q s : Fill) → IsFilling s → MayRead q t (apply s w) → (x : Fill) × IsFilling x
+    × ((k : _) → stands k t ≡ true → q k ≡ apply x (p k))
 
 -- at what is general enough the part reads as something else, or a predicate is No
 pub record FailsAt (A : Aliases) (v : Verdicts) (t : Term) (preds : List Asked) (w : Term) : Type 0 where
@@ -85,7 +86,8 @@ ShadowsNot A v c w r = (r.head.kind ≡ c → ⊥) ⊎ IsRefuted A v r (key c r.
 
 abbrev pub HasSource : System → Aliases → Verdicts → Kind → Term → Type 0
 HasSource f A v c w =
-    SomeOf (Proves A v.Yes c w) f.clauses ⊎ (Each (ShadowsNot A v c w) f.clauses × (SomeOf (Proves A v.Yes c w) f.rules ⊎ CopyYes f v.Yes c w))
+    SomeOf (Proves A v.Yes c w) f.clauses
+    ⊎ (Each (ShadowsNot A v c w) f.clauses × (SomeOf (Proves A v.Yes c w) f.rules ⊎ CopyYes f v.Yes c w))
 
 abbrev pub HasNoSource : System → Aliases → Verdicts → Kind → Term → Type 0
 HasNoSource f A v c w =
@@ -105,12 +107,15 @@ IsNeverItself (projects k) w = (s : Fill) (x : Term) → Respects s → apply s 
 -- the answers to a goal that reads as `w`
 abbrev pub YesAt : System → Aliases → Verdicts → Kind → Term → Type 0
 YesAt f A v c w =
-    IsKnown (key c w) × (IsItself c w ⊎ OneIf (is_among f.sized c) (SizedYes f A (λ t. IsKnown (only t) × HasSource f A v c (only t)) f.tail (self_type w)) (HasSource f A v c w))
+    IsKnown (key c w) × (IsItself c w
+    ⊎ OneIf (is_among f.sized c) (SizedYes f A (λ t. IsKnown (only t) × HasSource f A v c (only t)) f.tail (self_type w))
+    (HasSource f A v c w))
 
 abbrev pub NoAt : System → Aliases → Verdicts → Kind → Term → Type 0
 NoAt f A v c w =
     IsKnown (key c w) × IsNeverItself c w
-    × OneIf (is_among f.sized c) (SizedNo f A (λ t. IsKnown (only t) × HasNoSource f A v c (only t)) f.tail (self_type w)) (HasNoSource f A v c w)
+    × OneIf (is_among f.sized c) (SizedNo f A (λ t. IsKnown (only t) × HasNoSource f A v c (only t)) f.tail (self_type w))
+    (HasNoSource f A v c w)
 
 -- one step deeper: aliases first, in the goal and in the heads of sources
 abbrev pub next : System → Verdicts → Verdicts
@@ -127,7 +132,8 @@ nothing f = record { Yes = λ g. ⊥; No = λ g. ⊥; Alias = alias_first f }
 -- and only whether a type has a size is answered
 abbrev pub first : System → Verdicts
 first f = record {
-  Yes = λ g. (w : Term) × ReadsAs (alias_first f) g.parts w × (is_among f.sized g.kind ≡ true) × YesAt f (alias_first f) (nothing f) g.kind w;
+  Yes = λ g. (w : Term) × ReadsAs (alias_first f) g.parts w × (is_among f.sized g.kind ≡ true)
+      × YesAt f (alias_first f) (nothing f) g.kind w;
   No = λ g. (w : Term) × ReadsAs (alias_first f) g.parts w × (is_among f.sized g.kind ≡ true) × NoAt f (alias_first f) (nothing f) g.kind w;
   Alias = alias_first f;
 }

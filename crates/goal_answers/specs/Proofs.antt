@@ -28,7 +28,9 @@ HasSource f P Proved c w =
 abbrev pub HasProof : System → Aliases → ℕ → Asked → Type 0
 HasProof f P zero g = ⊥
 HasProof f P (suc n) g =
-    (w : Term) × ReadsAs P g.parts w × (IsItself g.kind w ⊎ OneIf (is_among f.sized g.kind) (SizedYes f P (λ t. HasSource f P (HasProof f P n) g.kind (only t)) f.tail (self_type w)) (HasSource f P (HasProof f P n) g.kind w))
+    (w : Term) × ReadsAs P g.parts w
+    × (IsItself g.kind w ⊎ OneIf (is_among f.sized g.kind)
+    (SizedYes f P (λ t. HasSource f P (HasProof f P n) g.kind (only t)) f.tail (self_type w)) (HasSource f P (HasProof f P n) g.kind w))
 
 -- the rule says that the alias is this type, and each predicate has a proof
 pub record IsGiven (P : Aliases) (Proved : Asked → Type 0) (k : TypeAliasId) (w u : Term) (r : Rule) : Type 0 where

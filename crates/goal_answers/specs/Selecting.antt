@@ -66,7 +66,8 @@ IsOnlySource f A v c w (by_clause i) = IsOnlyOf (RuleIsRefuted A v c w) f.clause
 IsOnlySource f A v c w (by_rule i) =
     Each (ShadowsNot A v c w) f.clauses × CopyNo f v.No c w × IsOnlyOf (RuleIsRefuted A v c w) f.rules i × HasConcreteHead f.rules i
 IsOnlySource f A v c w by_parts =
-    Each (ShadowsNot A v c w) f.clauses × Each (RuleIsRefuted A v c w) f.rules × (CopyNo f v.No c w → ⊥) × ((ts : List Term) × CopiesParts f c w ts)
+    Each (ShadowsNot A v c w) f.clauses × Each (RuleIsRefuted A v c w) f.rules × (CopyNo f v.No c w → ⊥)
+    × ((ts : List Term) × CopiesParts f c w ts)
 IsOnlySource f A v c w by_size = ⊥
 
 -- ---- what has a size
@@ -96,7 +97,8 @@ IsDeep (suc n) = Unit {0}
 -- what a goal is selected by
 pub record Selects (f : System) (n : ℕ) (g : Asked) (by : Choice) : Type 0 where
   pub selectable : IsSelectable g
-  pub source : OneIf (is_among f.sized g.kind) ((answers f n).Yes g × SizeIsBy f (answers f n).Alias (known_below f n) g.kind g.parts by) (IsDeep n × IsOnlySource f (answers f n).Alias (known_below f n) g.kind g.parts by)
+  pub source : OneIf (is_among f.sized g.kind) ((answers f n).Yes g × SizeIsBy f (answers f n).Alias (known_below f n) g.kind g.parts by)
+      (IsDeep n × IsOnlySource f (answers f n).Alias (known_below f n) g.kind g.parts by)
 
 -- it is this, or it is nothing
 abbrev pub IsChoice : System → ℕ → Asked → Option Choice → Type 0

@@ -3,7 +3,6 @@
 
 mod laws;
 
-pub use infer_table;
 pub use laws::{
     answers_are_one, answers_tell_proofs, decided_answers_stay, deeper_answers_agree,
     selected_is_the_source,

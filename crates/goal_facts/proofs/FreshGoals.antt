@@ -10,7 +10,7 @@ use Rattle.hir_types.specs.declared.ty.Const.TheVariants as const
 use Rattle.hir_types.specs.declared.ty.Ty.TheVariants as ty
 use Rattle.hir_types.specs.declared.ty.GenericArg.TheVariants as arg
 use Rattle.goal_facts.specs.Words.hir_raw.declared.raw.RawGoal.TheVariants as goal
-use Rattle.goal_facts.specs.Own.{holes, instance, type_at, args_at, goal_at, RuleGoals, asked_goal, trait_rule, rules_for, fresh, holes_from, HasHolesBelow, head_at, AreGoalsOf}
+use Rattle.goal_facts.specs.Own.{holes, instance, type_at, args_at, goal_at, RuleGoals, asked_goal, trait_rule, rules_for, said_trait, fresh, holes_from, HasHolesBelow, head_at, AreGoalsOf}
 
 -- ---- a written type has no holes
 
@@ -147,14 +147,14 @@ args_holes raw n ws =
 
 -- ---- the goals of an impl
 
-pub are_goals : (raw : RawFacts) (first : ℕ) (p : RawImpl) (r : RawTraitRef) (made : RuleGoals) → slice_get raw.impls made.source.0 ≡ Some p → p.trait_ ≡ Some r
+pub are_goals : (raw : RawFacts) (first : ℕ) (p : RawImpl) (r : RawTraitRef) (made : RuleGoals) → slice_get raw.impls made.source.0 ≡ Some p → said_trait raw p.trait_ ≡ Some r
     → made.args ≡ holes_from first (length p.params) → asked_goal made.head ≡ head_at raw made.args p r → map asked_goal made.preds.items ≡ map (goal_at raw made.args) p.preds
     → AreGoalsOf raw first (trait_rule raw p r) made
-are_goals raw first p r made here trait_ args head preds =
+are_goals raw first p r made here said args head preds =
     let n : ℕ = length p.params in
     let count : n ≡ generic_params raw (generic.ImplId made.source) = ap (λ o. count_or_none (option_map (λ (x : RawImpl). length x.params) o)) (sym here) in
     record {
-      source = (p, here, (0, ap (λ o. slice_get (rules_for raw p o) 0) trait_));
+      source = (p, here, (0, ap (λ o. slice_get (rules_for raw p o) 0) said));
       args = args ∙ ap (holes_from first) count;
       head = head ∙ (ap (λ xs. head_at raw xs p r) args ∙ sym (fresh_head raw first n p r));
       preds = preds ∙ (ap (λ xs. map (goal_at raw xs) p.preds) args ∙ sym (fresh_goals raw first n p.preds));

@@ -4,6 +4,7 @@ pub mod Following
 pub mod FreshGoals
 pub mod ListedBounds
 pub mod RulePlaces
+pub mod Saying
 pub mod Systems
 pub mod Typed
 pub mod Written

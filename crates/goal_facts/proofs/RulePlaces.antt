@@ -4,9 +4,10 @@ use Rattle.std.proofs.Common.{sym, ap, ap₂, ◌∙◌, subst, arith, append_as
 use Rattle.std.proofs.lemmas.List.{length-append}
 use Rattle.std.proofs.lemmas.Option.{same_Some}
 use Rattle.goal_facts.specs.Words.{ImplId, RawTraitRef, RawImpl, RawFacts, Rule, IsTraitKind, IsConcrete}
-use Rattle.goal_facts.specs.Own.{trait_rule, assoc_rule, rules_for, impl_rules, fact, RulesAre, ImplHasRule, ComesFrom, IsPlaceOf}
+use Rattle.goal_facts.specs.Own.{trait_rule, assoc_rule, rules_for, said_trait, impl_rules, fact, RulesAre, ImplHasRule, ComesFrom, IsPlaceOf}
 use Rattle.goal_facts.proofs.Adding.{get_in_map}
 use Rattle.goal_facts.proofs.ListedBounds.{listed_not_concrete}
+use Rattle.goal_facts.proofs.Saying.{said_is}
 
 -- ---- places in lists one behind the other
 
@@ -58,9 +59,17 @@ trait_rule_at raw p (Some t) (suc i) r at kind =
 pub trait_rule_is : (raw : RawFacts) (id : ImplId) (p : RawImpl) (t : RawTraitRef) (r : Rule) → slice_get raw.impls id.0 ≡ Some p → p.trait_ ≡ Some t → ImplHasRule raw id r → IsTraitKind r.head.kind → r ≡ trait_rule raw p t
 trait_rule_is raw id p t r here trait_ (q, at, (i, found)) kind =
     let own : q ≡ p = same_Some q p (sym at ∙ here) in
-    let is = trait_rule_at raw q q.trait_ i r found kind in
-    let same : is.0 ≡ t = same_Some is.0 t (sym is.1 ∙ (ap (λ x. x.trait_) own ∙ trait_)) in
+    let is = trait_rule_at raw q (said_trait raw q.trait_) i r found kind in
+    let same : is.0 ≡ t = same_Some is.0 t (sym (said_is raw q.trait_ is.0 is.1) ∙ (ap (λ x. x.trait_) own ∙ trait_)) in
     is.2 ∙ ap₂ (trait_rule raw) own same
+
+-- its trait is no trait of types with a size
+pub trait_is_said : (raw : RawFacts) (id : ImplId) (p : RawImpl) (t : RawTraitRef) (r : Rule) → slice_get raw.impls id.0 ≡ Some p → p.trait_ ≡ Some t → ImplHasRule raw id r → IsTraitKind r.head.kind → said_trait raw p.trait_ ≡ Some t
+trait_is_said raw id p t r here trait_ (q, at, (i, found)) kind =
+    let own : q ≡ p = same_Some q p (sym at ∙ here) in
+    let is = trait_rule_at raw q (said_trait raw q.trait_) i r found kind in
+    let same : is.0 ≡ t = same_Some is.0 t (sym (said_is raw q.trait_ is.0 is.1) ∙ (ap (λ x. x.trait_) own ∙ trait_)) in
+    sym (ap (λ (x : RawImpl). said_trait raw x.trait_) own) ∙ (is.1 ∙ ap (λ x. Some x) same)
 
 -- ---- a rule that is no bound
 

@@ -98,7 +98,7 @@ alias_lists raw i k a xs gs x y is args bounds h =
 -- ---- answers
 
 pub depth_is_small : (raw : RawFacts) → IsLawful raw → raw.limits.goal_depth ≤ 32
-depth_is_small raw law = (law.all.1.1.1.1.1.1.1.1.1.1.1.1.1.1.1.1.1.1.1.1.1.1.1.1.1.1.1.1.1.1.1.1.1.1.1.1.1.1.1.1.0 0 raw.limits.goal_depth refl).1
+depth_is_small raw law = (law.all.1.1.1.1.1.1.1.1.1.1.1.1.1.1.1.1.1.1.1.1.1.1.1.1.1.1.1.1.1.1.1.1.1.1.1.1.1.1.1.0 0 raw.limits.goal_depth refl).1
 
 -- a goal whose holes stay is itself
 pub asked_itself : (g : Asked) → asked_at hole g ≡ g

@@ -60,7 +60,8 @@ pub record AreGoalsOf (raw : RawFacts) (first : ℕ) (r : Rule) (made : RuleGoal
   pub pred_holes : Each (λ q. HasHolesBelow (generic_params raw (generic.ImplId made.source)) q.parts) r.preds
 
 -- that an impl implements its trait, at these arguments for its parameters
-pub record AreGoalsAt (raw : RawFacts) (id : ImplId) (xs : List GenericArg) (p : RawImpl) (r : RawTraitRef) (made : RuleGoals) : Type 0 where
+pub record AreGoalsAt (raw : RawFacts) (id : ImplId) (xs : List GenericArg) (p : RawImpl) (r : RawTraitRef)
+    (made : RuleGoals) : Type 0 where
   pub source : made.source ≡ id
   pub args : made.args ≡ xs
   pub head : asked_goal made.head ≡ head_at raw xs p r
@@ -85,5 +86,6 @@ rules_of_first raw n = length (flat_map (impl_rules raw) (take n raw.impls))
 
 -- the place is among the rules of this impl, or behind those of all
 abbrev pub IsPlaceOf : RawFacts → ℕ → Option ImplId → Type 0
-IsPlaceOf raw i (Some id) = (p : RawImpl) × (rest : ℕ) × (slice_get raw.impls id.0 ≡ Some p) × (rest < length (impl_rules raw p)) × (i ≡ rules_of_first raw id.0 + rest)
+IsPlaceOf raw i (Some id) = (p : RawImpl) × (rest : ℕ) × (slice_get raw.impls id.0 ≡ Some p) × (rest < length (impl_rules raw p))
+    × (i ≡ rules_of_first raw id.0 + rest)
 IsPlaceOf raw i None = (rest : ℕ) × (i ≡ length (flat_map (impl_rules raw) raw.impls) + rest)

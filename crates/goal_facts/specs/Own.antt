@@ -5,7 +5,7 @@ pub use Rattle.goal_facts.specs.Bounds.{AliasLists, BoundSays, IsListed}
 pub use Rattle.goal_facts.specs.Environment.{Follows, IsClosure, IsOwn, IsStated, IsSuper, SaysAt, env_preds, env_trait, own_clause, preds_of_trait, preds_or_none, trait_holes, trait_preds}
 pub use Rattle.goal_facts.specs.Goals.{IsAnswer, ItemSources, asked_goal, trait_goal}
 pub use Rattle.goal_facts.specs.ImplGoals.{AreGoalsAt, AreGoalsIf, AreGoalsOf, ComesFrom, HasHolesBelow, ImplHasRule, IsPlaceBehind, IsPlaceOf, fresh, head_at, holes_from, rules_of_first}
-pub use Rattle.goal_facts.specs.Impls.{assoc_rule, impl_args, impl_holes, impl_rule, impl_rules, rules_for, trait_rule}
+pub use Rattle.goal_facts.specs.Impls.{assoc_rule, impl_args, impl_holes, impl_rule, impl_rules, rules_for, said_trait, trait_rule}
 pub use Rattle.goal_facts.specs.Levels.{BoundSaysIf, IsLevel, SaysIf, SomeSuper}
 pub use Rattle.goal_facts.specs.Proofs.{AreProofs, AreProofsOf, AreProofsUnder, Holds, IsBuiltIn, IsClause, IsImplAt, IsListedBound, IsProofOf, IsSame, IsSource, IsUnshadowed, MayHaveSource, SaysItself, arg_at, args_fill, filled_goal}
 pub use Rattle.goal_facts.specs.Reading.{IsReadOrItself, IsTypeRead, TypeReads}

@@ -44,7 +44,8 @@ pub record IsClause (f : System) (P : Aliases) (g : Asked) (c : Goal) (qs : List
   pub asks : qs ≡ clause.preds
 
 -- one of the rules of an impl, at an argument for each of its parameters
-pub record IsImplAt (raw : RawFacts) (P : Aliases) (s : Fill) (g : Asked) (id : ImplId) (xs : List GenericArg) (qs : List Asked) : Type 0 where
+pub record IsImplAt (raw : RawFacts) (P : Aliases) (s : Fill) (g : Asked) (id : ImplId) (xs : List GenericArg)
+    (qs : List Asked) : Type 0 where
   pub item : RawImpl
   pub listed : slice_get raw.impls id.0 ≡ Some item
   pub as_many : length xs ≡ length item.params
@@ -56,7 +57,8 @@ pub record IsImplAt (raw : RawFacts) (P : Aliases) (s : Fill) (g : Asked) (id : 
 
 -- a bound that is listed at an associated type, or what follows from it
 abbrev pub IsListedBound : RawFacts → Aliases → Asked → Type 0
-IsListedBound raw P g = (d : Asked) × (w : Term) × Follows raw (IsListed raw) raw.limits.goal_depth d × (d.kind ≡ g.kind) × ReadsAs P g.parts w × ((p : Fill) × Reads P p d.parts w)
+IsListedBound raw P g = (d : Asked) × (w : Term) × Follows raw (IsListed raw) raw.limits.goal_depth d × (d.kind ≡ g.kind)
+    × ReadsAs P g.parts w × ((p : Fill) × Reads P p d.parts w)
 
 -- both sides of a projection are the same
 abbrev pub SaysItself : Aliases → Asked → Type 0
@@ -67,7 +69,8 @@ abbrev pub IsBuiltIn : RawFacts → System → Aliases → Asked → List Asked 
 IsBuiltIn raw f P g qs =
     ((qs ≡ []) × (is_among f.sized g.kind ≡ true) × (answers f raw.limits.goal_depth).Yes g)
     ⊎ (((qs ≡ []) × IsListedBound raw P g)
-    ⊎ ((w : Term) × (ts : List Term) × ReadsAs P g.parts w × CopiesParts f g.kind w ts × (qs ≡ map (λ t. record { kind = g.kind; parts = only t }) ts)))
+    ⊎ ((w : Term) × (ts : List Term) × ReadsAs P g.parts w × CopiesParts f g.kind w ts
+    × (qs ≡ map (λ t. record { kind = g.kind; parts = only t }) ts)))
 
 -- clauses come before the others, but that both sides are the same, as in `YesAt`
 abbrev pub IsSource : RawFacts → System → Aliases → Fill → Asked → ProofSource → List Asked → Type 0

@@ -3,8 +3,8 @@ ghost use Rattle.std.specs.Prelude.{◌≡◌, ◌++◌, ◌∷◌, IfOk, OnOk};
 ghost use Rattle.goal_facts.specs.Words.{term_of, IsHead, HasHeads, asked_of};
 ghost use Rattle.goal_facts.specs.Own.{holes, own_params, instance, instances, type_at, args_at, goal_types, goal_with, goal_at};
 
-use goal_search::goal_terms::{Term, args_term, type_term};
 use goal_search::{Asked, Kind};
+use goal_terms::{Term, args_term, type_term};
 use hir_facts::{Facts, GenericArg, List, RawGoal, Ty, TypeRefId, instantiate, lower_ty};
 use std::alloc::{AllocError, Global};
 

@@ -6,9 +6,9 @@ ghost use Rattle.goal_facts.specs.Own.{type_at, args_at, Adds, SomeSays, BoundSa
 use crate::additions::add;
 use crate::arguments::{args_at, goal_types, goal_with, holes, type_at};
 use goal_search::Asked;
-use goal_search::goal_terms::{Term, args_term, staying_term};
-use hir_facts::hir_raw::generic_params;
+use goal_terms::{Term, args_term, staying_term};
 use hir_facts::{Facts, GenericArg, GenericDefId, List, RawGoal, TypeAliasId, TypeRefId};
+use hir_raw::generic_params;
 use hir_types::Head;
 use std::alloc::{AllocError, Global};
 

@@ -6,8 +6,8 @@ ghost use Rattle.goal_facts.specs.Own.{asked_goal};
 use crate::additions::is_same;
 use crate::goals::asked;
 use crate::item_sources::ItemSources;
-use goal_search::goal_terms::{Term, term_args, term_type};
 use goal_search::{Asked, Kind};
+use goal_terms::{Term, term_args, term_type};
 use hir_facts::{Goal, List, TraitId, TraitRef, Ty, TypeAliasId};
 use std::alloc::{AllocError, Global};
 

@@ -7,10 +7,10 @@ ghost use Rattle.goal_facts.specs.Own.{Adds, SomeSays, Has, AreDistinct, AllHave
 use crate::additions::add;
 use crate::arguments::{goal_at, holes};
 use crate::environment::trait_preds;
-use goal_search::goal_terms::Term;
 use goal_search::{Asked, Kind, field_at, key_of, self_type};
-use hir_facts::hir_raw::generic_params;
+use goal_terms::Term;
 use hir_facts::{Facts, GenericArg, GenericDefId, List, RawGoal};
+use hir_raw::generic_params;
 use hir_types::{Head, Hole};
 use std::alloc::{AllocError, Global};
 

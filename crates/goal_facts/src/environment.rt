@@ -5,10 +5,10 @@ ghost use Rattle.goal_facts.specs.Own.{goal_at, own_params, Adds, SomeSays, trai
 
 use crate::additions::add;
 use crate::arguments::{goal_at, own_params};
-use goal_search::goal_terms::args_term;
 use goal_search::{Asked, Kind};
-use hir_facts::hir_raw::generic_params;
+use goal_terms::args_term;
 use hir_facts::{Facts, GenericArg, GenericDefId, List, RawFacts, RawGoal, TraitId};
+use hir_raw::generic_params;
 use std::alloc::{AllocError, Global};
 
 /// The predicates of a trait.

@@ -3,8 +3,8 @@ ghost use Rattle.std.specs.Prelude.{◌≡◌, IfOk};
 ghost use Rattle.goal_facts.specs.Words.{term_of, HasHeads, asked_of};
 ghost use Rattle.goal_facts.specs.Own.{asked_goal};
 
-use goal_search::goal_terms::{Term, args_term, type_term};
 use goal_search::{Asked, Kind};
+use goal_terms::{Term, args_term, type_term};
 use hir_facts::Goal;
 use std::alloc::{AllocError, Global};
 

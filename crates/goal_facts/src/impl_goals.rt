@@ -1,13 +1,14 @@
 //! What an impl says as goals over types, with fresh holes for its parameters.
 ghost use Rattle.std.specs.Prelude.{◌≡◌, ◌++◌, ◌∷◌, ◌<◌, length, slice_get, Some, map, IfOk};
 ghost use Rattle.goal_facts.specs.Words.{RawFacts, RawImpl, Rule, IsTraitKind, IsConcrete, system};
-ghost use Rattle.goal_facts.specs.Own.{goal_at, trait_goal, asked_goal, impl_holes, trait_rule, impl_rules, holes_from, ImplHasRule, ComesFrom, head_at, AreGoalsOf, AreGoalsAt, AreGoalsIf, IsPlaceBehind, IsPlaceOf};
+ghost use Rattle.goal_facts.specs.Own.{goal_at, trait_goal, asked_goal, impl_holes, trait_rule, said_trait, impl_rules, holes_from, ImplHasRule, ComesFrom, head_at, AreGoalsOf, AreGoalsAt, AreGoalsIf, IsPlaceBehind, IsPlaceOf};
 
 use crate::arguments::{goal_types, holes, instance, push_instances};
 use crate::item_sources::ItemSources;
 use hir_facts::{
     Facts, GenericArg, Goal, ImplId, List, RawGoal, RawImpl, RawTraitRef, TraitRef, Ty,
 };
+use hir_raw::some_sized;
 use std::alloc::{AllocError, Global};
 
 /// The rule that an impl implements its trait, over types.
@@ -126,7 +127,7 @@ fn goals_for(
     first: usize,
 ) -> Result<RuleGoals, AllocError>
     requires item { slice_get facts.now.impls source.0 ≡ Some item.now }
-    requires trait_ref { item.now.trait_ ≡ Some trait_ref.now }
+    requires said { said_trait facts.now item.now.trait_ ≡ Some trait_ref.now }
     ensures { IfOk result (λ made. AreGoalsOf facts.now first (trait_rule facts.now item.now trait_ref.now) made) }
 {
     let args = holes_from(alloc, first, item.params.len())?;
@@ -151,15 +152,18 @@ fn goals_of_impl(
 }
 
 /// How far behind the rules of an impl a place is, where it is not among them.
-fn place_behind(item: &RawImpl, place: usize) -> Option<usize>
-    ensures { (raw : RawFacts) → IsPlaceBehind (length (impl_rules raw item.now)) place result }
+fn place_behind(facts: &Facts, item: &RawImpl, place: usize) -> Option<usize>
+    ensures { IsPlaceBehind (length (impl_rules facts.now item.now)) place result }
 {
-    match &item.trait_ {
-        Some(_) => match place.checked_sub(1) {
-            Some(rest) => rest.checked_sub(item.types.len()),
-            None => None,
-        },
-        None => Some(place),
+    let Some(trait_ref) = &item.trait_ else {
+        return Some(place);
+    };
+    if some_sized(facts.raw(), trait_ref.trait_) {
+        return Some(place);
+    }
+    match place.checked_sub(1) {
+        Some(rest) => rest.checked_sub(item.types.len()),
+        None => None,
     }
 }
 
@@ -179,7 +183,7 @@ fn impl_at(facts: &Facts, place: usize) -> Result<Option<ImplId>, AllocError>
     let impls = facts.raw().impls.as_slice();
     let mut rest = place;
     for number in 0..impls.len() {
-        let Some(behind) = place_behind(&impls[number], rest) else {
+        let Some(behind) = place_behind(facts, &impls[number], rest) else {
             return Ok(Some(impl_number(number)?));
         };
         rest = behind;

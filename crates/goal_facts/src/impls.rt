@@ -4,9 +4,10 @@ ghost use Rattle.goal_facts.specs.Words.{Each, term_of, IsHead, HasHeads, asked_
 ghost use Rattle.goal_facts.specs.Own.{goal_at, impl_holes, impl_rule, impl_args, assoc_rule, rules_for, impl_rules};
 
 use crate::arguments::{args_after, goal_at, holes, type_at};
-use goal_search::goal_terms::Term;
 use goal_search::{Asked, Kind, Rule};
+use goal_terms::Term;
 use hir_facts::{Facts, GenericArg, List, RawAssocType, RawGoal, RawImpl, RawTraitRef};
+use hir_raw::some_sized;
 use std::alloc::{AllocError, Global};
 
 fn goals_at(
@@ -119,6 +120,7 @@ fn push_rules_for(
     push_assoc_rules(alloc, facts, &holes, item, trait_ref, rules)
 }
 
+/// What an impl says. Which types have a size none says.
 fn push_rules_of(
     alloc: Global,
     facts: &Facts,
@@ -129,10 +131,13 @@ fn push_rules_of(
     ensures is { OnOk result (rules_of rules.new.items ≡ rules_of rules.old.items ++ impl_rules facts.now item.now) }
     ensures heads { OnOk result (Each RuleHasHeads (rules_of rules.new.items)) }
 {
-    match &item.trait_ {
-        Some(trait_ref) => push_rules_for(alloc, facts, item, trait_ref, rules),
-        None => Ok(()),
+    let Some(trait_ref) = &item.trait_ else {
+        return Ok(());
+    };
+    if some_sized(facts.raw(), trait_ref.trait_) {
+        return Ok(());
     }
+    push_rules_for(alloc, facts, item, trait_ref, rules)
 }
 
 /// What the impls say, each that its trait is implemented, and what each of its associated types is.

@@ -5,8 +5,8 @@ ghost use Rattle.goal_facts.specs.Own.{asked_goal, IsAnswer, IsSystemOf};
 
 use crate::goals::asked;
 use crate::sources::sources_of;
-use goal_search::goal_terms::type_term;
 use goal_search::{Answer, Choice, Holes, Kind, Search, Sources, is_among};
+use goal_terms::type_term;
 use hir_facts::{Facts, GenericDefId, Goal, TraitId, Ty};
 use std::alloc::{AllocError, Global};
 use std::marker::Model;

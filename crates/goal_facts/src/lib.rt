@@ -18,12 +18,10 @@ mod sources;
 pub use additions::is_same;
 pub use arguments::push_instances;
 pub use clauses::goal_of;
-pub use goal_search;
-pub use goal_search::{Answer, Choice, goal_terms, infer_table};
+pub use goal_search::{Answer, Choice};
 pub use goals::asked;
-pub use hir_facts;
 pub use hir_facts::{
-    AdtId, ExprOrPatId, Facts, GenericArg, GenericDefId, Goal, List, TraitId, TraitRef, Ty, hir_raw,
+    AdtId, ExprOrPatId, Facts, GenericArg, GenericDefId, Goal, List, TraitId, TraitRef, Ty,
 };
 pub use impl_goals::{RuleGoals, goals_of};
 pub use item_sources::ItemSources;

@@ -4,8 +4,8 @@ ghost use Rattle.goal_facts.specs.Own.{IsTypeRead, IsSystemOf};
 ghost use Rattle.goal_facts.specs.Words.{system};
 
 use crate::item_sources::ItemSources;
-use goal_search::goal_terms::{term_type, type_term};
 use goal_search::{Holes, MOST_LEVELS};
+use goal_terms::{term_type, type_term};
 use hir_facts::Ty;
 use std::alloc::{AllocError, Global};
 

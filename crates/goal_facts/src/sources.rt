@@ -8,8 +8,8 @@ use crate::bounds::listed;
 use crate::closure::close;
 use crate::environment::stated;
 use crate::impls::push_impl_rules;
-use goal_search::goal_terms::Term;
 use goal_search::{Asked, Rule, Sources};
+use goal_terms::Term;
 use hir_facts::{Facts, GenericDefId, RawAdt, RawAdtKind, RawFacts, RawLang, RawVariant, TraitId};
 use std::alloc::{AllocError, Global};
 

@@ -23,6 +23,7 @@ module _ (raw : RawFacts) (f : System) (p : Fill) where
     reads = h.reads;
     proof = h.proof;
     at = subst (λ zs. slice_get zs k ≡ Some h.proof) (sym front.1) (get_left ps front.0 k h.proof h.at);
+    read = h.read;
     same = h.same;
   }
 

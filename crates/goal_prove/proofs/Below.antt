@@ -1,7 +1,7 @@
 -- A predicate that is Yes below the depth, as a goal that is read.
 use Rattle.std.specs.Prelude.{◌≡◌, ◌⊎◌, ◌≤◌, ℕ, zero, suc, true, List}
 use Rattle.std.proofs.Common.{inl, inr, sym, ap, ◌∙◌, subst, arith}
-use Rattle.goal_prove.specs.Words.{Goal, Term, apply, RawFacts, Fill, Aliases, Reads, ReadsAs, Kind, implements, projects, Asked, System, asked_at, is_among, YesAt, answers, IsDeep, known_below, IsDone, SystemHasHeads, Proof, asked_goal}
+use Rattle.goal_prove.specs.Words.{Goal, Term, apply, RawFacts, Fill, Aliases, Reads, ReadsAs, Kind, implements, projects, Asked, System, asked_at, is_among, YesAt, answers, IsDeep, known_below, IsDone, SystemHasHeads, Proof, asked_goal, IsRead}
 use Rattle.hir_types.specs.declared.goal.Goal.TheVariants as goal
 use Rattle.goal_prove.proofs.Words.{read_reads, reads_one, reads_within, answers_sound, reading_done, reads_before, within}
 use Rattle.goal_prove.specs.Own.{IsGoodGoal, deep_alias, ReadsTo, IsAsked, PredIsAsked, IsProvedAs, IsPredProved}
@@ -13,6 +13,10 @@ goal_with (implements t) w h = (goal.Trait (record { id = t; args = h.goal.0 }),
 goal_with (projects k) w h = (goal.Projection k h.goal.0 h.goal.1, λ i. record { kind = projects k; parts = sym h.goal.2 i })
 
 module _ (raw : RawFacts) (f : System) (c : Kind) (w : Term) (good : IsGoodGoal c w) (done : IsDone w) where
+  -- of which these are the parts
+  pub made_parts : (made : Goal) → ((g : Goal) → asked_goal g ≡ record { kind = c; parts = w } → asked_goal made ≡ record { kind = c; parts = w }) → (asked_goal made).parts ≡ w
+  made_parts made is = (let q = goal_with c w good in ap (λ (x : Asked). x.parts) (is q.0 q.1))
+
   -- such a goal reads as itself
   pub made_reads : (made : Goal) → ((g : Goal) → asked_goal g ≡ record { kind = c; parts = w } → asked_goal made ≡ record { kind = c; parts = w }) → ReadsTo raw f made c w
   made_reads made is =
@@ -67,8 +71,8 @@ module _ (raw : RawFacts) (f : System) (heads : SystemHasHeads f) (n : ℕ) (le 
           record { done = is_done; good = is_good; yes = subst (YesAt f A (known_below f m) q.kind) same yes.yes; deep = yes.deep }
 
       -- a proof of a goal that reads so is one of it
-      pub is_proved : (g : Goal) → ReadsTo raw f g q.kind u → (ps zs : List Proof) (k : ℕ) → IsProvedAs raw f ps zs g k → IsPredProved raw f p ps zs q k
-      is_proved g to ps zs k h = record {
+      pub is_proved : (g : Goal) → ReadsTo raw f g q.kind u → (asked_goal g).parts ≡ u → (ps zs : List Proof) (k : ℕ) → IsProvedAs raw f ps zs g k → IsPredProved raw f p ps zs q k
+      is_proved g to parts ps zs k h = record {
         adds = h.adds;
         roots = h.roots;
         found = record {
@@ -76,6 +80,7 @@ module _ (raw : RawFacts) (f : System) (heads : SystemHasHeads f) (n : ℕ) (le 
           reads = reads_within A (deep_alias raw f) (within f m raw.limits.goal_depth below).alias p q.parts u reads;
           proof = h.found.0;
           at = h.found.1;
+          read = subst IsRead (sym (ap (λ (d : Asked). d.parts) h.found.2 ∙ parts)) is_done.read;
           same = record {
             kind = ap (λ (d : Asked). d.kind) h.found.2 ∙ to.kind;
             reads = λ s filling. subst (λ (d : Asked). ReadsAs (deep_alias raw f) (apply s d.parts) u) (sym h.found.2) (to.reads s filling);

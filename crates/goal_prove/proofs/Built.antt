@@ -1,29 +1,41 @@
 -- Proofs by each source, of a goal that reads so.
-use Rattle.std.specs.Prelude.{◌≡◌, ◌≤◌, ◌++◌, ℕ, true, List, [], ◌∷◌, length, map, slice_get, Some, None, refl, Result, IfOk}
+use Rattle.std.specs.Prelude.{◌≡◌, ◌≤◌, ◌++◌, ℕ, true, List, [], ◌∷◌, length, map, slice_get, Some, None, refl, Result, IfOk, suc, zero}
 use Rattle.std.proofs.Common.{inl, inr, sym, ap, ap₂, ◌∙◌, subst}
 use Rattle.std.proofs.lemmas.Result.{IfOk-weaker}
 use Rattle.std.specs.declared.alloc.AllocError.{AllocError}
+use Rattle.std.proofs.lemmas.Option.{same_Some}
 use Rattle.goal_prove.specs.Words.{ImplId, GenericDefId, Goal, Hole, GenericArg, Term, hole, apply, occurs, RawImpl, RawFacts, apply_agree, Fill, IsFilling, Aliases, Reads, ReadsAs, stands, Kind, Asked, Rule, System, asked_at, key, only, is_among, Each, IsToldBy, IsItself, answers, CopiesParts, known_below, log_of, fill_of, HasHeads, IsDone, RuleHasHeads, Proof, ProofSource, asked_goal, ComesFrom, ImplHasRule, filled_goal, args_fill, IsUnshadowed, IsClause, IsImplAt, IsListedBound, IsBuiltIn, IsSource, IsProofOf, AreProofsOf, Holds, IsSystemOf}
 use Rattle.goal_prove.specs.Words.goal_answers.Steps.{Tells}
-use Rattle.goal_prove.proofs.Words.{apply_hole, reads_may, reads_agree, reads_within, answers_sound, head_tells, may_done, reads_at, each_of_get, get_within, each_get, within, clause_closed}
+use Rattle.goal_prove.proofs.Words.{apply_hole, reads_may, reads_agree, reads_within, answers_sound, head_tells, may_done, reads_at, each_of_get, get_within, each_get, within, clause_closed, hole_filling}
 use Rattle.goal_prove.specs.Words.goal_facts.declared.proof.ProofSource.TheVariants as source
-use Rattle.goal_prove.specs.Own.{Found, IsGood, IsGoodGoal, deep_alias, ReadsTo, IsAsked, IsFree, IsFit, IsProved, IsProofFor, AreProofsFor, ArePredsProved, PredIsAsked, fill_args, AddsProofs, IsProofAt, IsPushed, IsNamed, AddsChildrenBut}
+use Rattle.goal_prove.specs.Own.{Found, IsGood, IsGoodGoal, deep_alias, ReadsTo, IsAsked, IsFree, IsFit, IsProved, IsProofFor, AreProofsFor, ArePredsProved, PredIsAsked, fill_args, AddsProofs, IsProofAt, IsPushed, IsNamed, AddsChildrenBut, IsDrawn, IsReadAt, IsTaken, TakesFrom}
 use Rattle.goal_prove.proofs.Adding.{adds_none, adds_then, adds_one, found_last}
 use Rattle.goal_prove.proofs.Children.{children_none, children_last}
 use Rattle.goal_prove.proofs.Aliases.{aliases_good}
 use Rattle.goal_prove.proofs.Fitting.{yes_here, may_here, unshadowed_here}
-use Rattle.goal_prove.proofs.Impled.{IsFilled, rule_filled, preds_good, fill_args_length, fill_is}
+use Rattle.goal_prove.proofs.Impled.{IsFilled, rule_filled, preds_good, fill_args_length, fill_is, args_taken, stands_occurs}
 
 -- ---- what was pushed
 
 module _ (raw : RawFacts) (f : System) (g : Goal) where
-  at_end : (ps qs zs : List Proof) (k : ℕ) (x : Proof) → x.goal ≡ g → AddsProofs raw f ps qs → AddsChildrenBut (IsNamed x.children) ps qs → ((s : Fill) → IsFilling s → Holds raw f (deep_alias raw f) s qs (length qs) x) → IsPushed qs zs x k → IsProved raw f ps zs g k
-  at_end ps qs zs k x same adds roots holds pushed =
-      let adds_all = adds_then raw f ps qs (qs ++ x ∷ []) adds (adds_one raw f qs x holds) in let is = subst (λ y. IsProofAt (qs ++ x ∷ []) y (length qs)) same (found_last raw f qs x) in
+  at_end : (ps qs zs : List Proof) (k : ℕ) (x : Proof) → x.goal ≡ g → AddsProofs raw f ps qs → AddsChildrenBut (IsNamed x.children) ps qs → ((s : Fill) → IsFilling s → Holds raw f (deep_alias raw f) s qs (length qs) x) → IsDrawn (deep_alias raw f) qs x → IsPushed qs zs x k
+      → IsProved raw f ps zs g k
+  at_end ps qs zs k x same adds roots holds drawn pushed =
+      let adds_all = adds_then raw f ps qs (qs ++ x ∷ []) adds (adds_one raw f qs x holds drawn) in let is = subst (λ y. IsProofAt (qs ++ x ∷ []) y (length qs)) same (found_last raw f qs x) in
       let here : IsProved raw f ps (qs ++ x ∷ []) g (length qs) = record { adds = adds_all; roots = children_last ps qs x roots; found = is } in
       subst (λ ys. IsProved raw f ps ys g k) (sym pushed.pushed) (subst (λ j. IsProved raw f ps (qs ++ x ∷ []) g j) (sym pushed.number) here)
 
 -- ---- children
+
+none_named : (ks : List ℕ) → [] ≡ ks → (k : ℕ) → IsNamed ks k → ⊥
+none_named ks none k h = (let there : slice_get [] h.0 ≡ Some k = subst (λ xs. slice_get xs h.0 ≡ Some k) (sym none) h.1 in cc)
+
+named_read : (raw : RawFacts) (f : System) (p : Fill) (ps : List Proof) (qs : List Asked) (ks : List ℕ) → AreProofsFor raw f p ps qs ks → (k : ℕ) → IsNamed ks k → IsReadAt ps k
+named_read raw f p ps [] [] h k n = absurd (none_named [] refl k n)
+named_read raw f p ps [] (j ∷ ks) h k n = absurd h
+named_read raw f p ps (q ∷ qs) [] h k n = absurd h
+named_read raw f p ps (q ∷ qs) (j ∷ ks) h k (zero, e) = subst (IsReadAt ps) (same_Some j k e) (record { proof = h.0.proof; at = h.0.at; read = h.0.read })
+named_read raw f p ps (q ∷ qs) (j ∷ ks) h k (suc i, e) = named_read raw f p ps qs ks h.1 k (i, e)
 
 module _ (raw : RawFacts) (f : System) (p z : Fill) (s : Fill) (filling : IsFilling s) where
   abbrev Turns : Asked → Type 0
@@ -67,12 +79,20 @@ module _ (raw : RawFacts) (item : GenericDefId) (f : System) (of : IsSystemOf ra
     children = children;
   }
 
+  -- what it reads as, its holes staying
+  own_reads : ReadsAs P (asked_goal g).parts w
+  own_reads = subst (λ t. ReadsAs P t w) (apply_hole (asked_goal g).parts) (reads hole hole_filling)
+
+  drawn_by : (src : ProofSource) → TakesFrom w src → (ks : List ℕ) (ps : List Proof) → ((k : ℕ) → IsNamed ks k → IsReadAt ps k) → IsDrawn P ps (record { goal = g; source = src; children = ks })
+  drawn_by src takes ks ps children = record { target = w; reads = own_reads; takes = takes; children = children }
+
   -- by a source that asks for nothing
-  alone : (src : ProofSource) → ((s : Fill) → IsFilling s → IsSource raw f P s (Own s) src []) → (ks : List ℕ) → [] ≡ ks → (ps zs : List Proof) (r : Result ℕ AllocError)
+  alone : (src : ProofSource) → TakesFrom w src → ((s : Fill) → IsFilling s → IsSource raw f P s (Own s) src []) → (ks : List ℕ) → [] ≡ ks → (ps zs : List Proof) (r : Result ℕ AllocError)
       → IfOk r (λ k. IsPushed ps zs (record { goal = g; source = src; children = ks }) k) → IfOk r (λ k. IsProved raw f ps zs g k)
-  alone src by ks none ps zs r pushed =
+  alone src takes by ks none ps zs r pushed =
       IfOk-weaker r (λ k. IsPushed ps zs (record { goal = g; source = src; children = ks }) k) (λ k. IsProved raw f ps zs g k)
-      (λ k h. at_end raw f g ps ps zs k (record { goal = g; source = src; children = ks }) refl (adds_none raw f ps) (children_none (IsNamed ks) ps) (λ s filling. holds_by src [] ks ps s filling (by s filling) (subst (λ xs. AreProofsOf P s ps (length ps) [] xs) none tt)) h)
+      (λ k h. at_end raw f g ps ps zs k (record { goal = g; source = src; children = ks }) refl (adds_none raw f ps) (children_none (IsNamed ks) ps) (λ s filling. holds_by src [] ks ps s filling (by s filling) (subst (λ xs. AreProofsOf P s ps (length ps) [] xs) none tt))
+      (drawn_by src takes ks ps (λ j named. absurd (none_named ks none j named))) h)
       pushed
 
   -- ---- clauses
@@ -91,13 +111,13 @@ module _ (raw : RawFacts) (item : GenericDefId) (f : System) (of : IsSystemOf ra
 
   pub by_clause : (x : Found) → IsFit P (known_below f deep) f.clauses c w x → (cl : Goal) → ((r : Rule) → slice_get f.clauses x.place ≡ Some r → asked_goal cl ≡ r.head) → (ks : List ℕ) → [] ≡ ks → (ps zs : List Proof) (r : Result ℕ AllocError)
       → IfOk r (λ k. IsPushed ps zs (record { goal = g; source = source.Clause cl; children = ks }) k) → IfOk r (λ k. IsProved raw f ps zs g k)
-  by_clause x fit cl is ks none ps zs r pushed = alone (source.Clause cl) (clause_is x fit cl is) ks none ps zs r pushed
+  by_clause x fit cl is ks none ps zs r pushed = alone (source.Clause cl) tt (clause_is x fit cl is) ks none ps zs r pushed
 
   -- ---- what is built in
 
   pub by_itself : IsItself c w → (ks : List ℕ) → [] ≡ ks → (ps zs : List Proof) (r : Result ℕ AllocError)
       → IfOk r (λ k. IsPushed ps zs (record { goal = g; source = source.BuiltIn; children = ks }) k) → IfOk r (λ k. IsProved raw f ps zs g k)
-  by_itself i ks none ps zs r pushed = alone source.BuiltIn (λ s filling. inl (refl, (w, reads s filling, subst (λ d. IsItself d w) (sym to.kind) i))) ks none ps zs r pushed
+  by_itself i ks none ps zs r pushed = alone source.BuiltIn tt (λ s filling. inl (refl, (w, reads s filling, subst (λ d. IsItself d w) (sym to.kind) i))) ks none ps zs r pushed
 
   module _ (free : IsFree raw f c w) where
     unshadowed : (s : Fill) → IsFilling s → IsUnshadowed f P (Own s)
@@ -105,7 +125,7 @@ module _ (raw : RawFacts) (item : GenericDefId) (f : System) (of : IsSystemOf ra
 
     built : ((s : Fill) → IsFilling s → IsBuiltIn raw f P (Own s) []) → (ks : List ℕ) → [] ≡ ks → (ps zs : List Proof) (r : Result ℕ AllocError)
         → IfOk r (λ k. IsPushed ps zs (record { goal = g; source = source.BuiltIn; children = ks }) k) → IfOk r (λ k. IsProved raw f ps zs g k)
-    built h ks none ps zs r pushed = alone source.BuiltIn (λ s filling. inr (unshadowed s filling, h s filling)) ks none ps zs r pushed
+    built h ks none ps zs r pushed = alone source.BuiltIn tt (λ s filling. inr (unshadowed s filling, h s filling)) ks none ps zs r pushed
 
     pub by_size : is_among f.sized c ≡ true → (ks : List ℕ) → [] ≡ ks → (ps zs : List Proof) (r : Result ℕ AllocError)
         → IfOk r (λ k. IsPushed ps zs (record { goal = g; source = source.BuiltIn; children = ks }) k) → IfOk r (λ k. IsProved raw f ps zs g k)
@@ -130,12 +150,13 @@ module _ (raw : RawFacts) (item : GenericDefId) (f : System) (of : IsSystemOf ra
 
     -- ---- by what was proved before
 
-    over : (src : ProofSource) (p z : Fill) (qs : List Asked) → ((s : Fill) → IsFilling s → IsSource raw f P s (Own s) src (map (asked_at z) qs)) → Each (λ q. (t : Term) → Reads P p q.parts t → ReadsAs P (apply z q.parts) t) qs
+    over : (src : ProofSource) → TakesFrom w src → (p z : Fill) (qs : List Asked) → ((s : Fill) → IsFilling s → IsSource raw f P s (Own s) src (map (asked_at z) qs)) → Each (λ q. (t : Term) → Reads P p q.parts t → ReadsAs P (apply z q.parts) t) qs
         → (ks : List ℕ) (ps ys zs : List Proof) → ArePredsProved raw f p ps ys qs ks → (r : Result ℕ AllocError)
         → IfOk r (λ k. IsPushed ys zs (record { goal = g; source = src; children = ks }) k) → IfOk r (λ k. IsProved raw f ps zs g k)
-    over src p z qs by turns ks ps ys zs proved r pushed =
+    over src takes p z qs by turns ks ps ys zs proved r pushed =
         IfOk-weaker r (λ k. IsPushed ys zs (record { goal = g; source = src; children = ks }) k) (λ k. IsProved raw f ps zs g k)
-        (λ k h. at_end raw f g ps ys zs k (record { goal = g; source = src; children = ks }) refl proved.adds proved.roots (λ s filling. holds_by src (map (asked_at z) qs) ks ys s filling (by s filling) (children_of raw f p z s filling ys qs ks turns proved.found)) h)
+        (λ k h. at_end raw f g ps ys zs k (record { goal = g; source = src; children = ks }) refl proved.adds proved.roots (λ s filling. holds_by src (map (asked_at z) qs) ks ys s filling (by s filling) (children_of raw f p z s filling ys qs ks turns proved.found))
+        (drawn_by src takes ks ys (named_read raw f p ys qs ks proved.found)) h)
         pushed
 
     -- ---- parts
@@ -152,7 +173,7 @@ module _ (raw : RawFacts) (item : GenericDefId) (f : System) (of : IsSystemOf ra
         → (ks : List ℕ) (ps ys zs : List Proof) → ArePredsProved raw f hole ps ys qs ks → (r : Result ℕ AllocError)
         → IfOk r (λ k. IsPushed ys zs (record { goal = g; source = source.BuiltIn; children = ks }) k) → IfOk r (λ k. IsProved raw f ps zs g k)
     by_parts ts copies qs are ks ps ys zs proved r pushed =
-        over source.BuiltIn hole hole qs
+        over source.BuiltIn tt hole hole qs
         (λ s filling. inr (
           unshadowed s filling,
           inr (inr (
@@ -195,12 +216,13 @@ module _ (raw : RawFacts) (item : GenericDefId) (f : System) (of : IsSystemOf ra
 
       module _ (count : ℕ) (counted : count ≡ length impl.params) (s : Fill) where
         abbrev xs : List GenericArg
-        xs = fill_args (log_of x.fills.items) count
+        xs = fill_args (log_of x.fills.items) fit.rule.head.parts count
 
         same_fill : (k : Hole) → stands k (key fit.rule.head.kind fit.rule.head.parts) ≡ true → args_fill s xs k ≡ fill k
         same_fill k st =
             let q = filled k st in
-            subst (λ (m : ℕ). args_fill s (fill_args (log_of x.fills.items) m) k ≡ fill k) (sym counted) (fill_is (log_of x.fills.items) (length impl.params) s k q.number q.below q.is q.good)
+            subst (λ (m : ℕ). args_fill s (fill_args (log_of x.fills.items) fit.rule.head.parts m) k ≡ fill k) (sym counted)
+            (fill_is (log_of x.fills.items) fit.rule.head.kind fit.rule.head.parts (length impl.params) s k q.number q.below q.is st q.good)
 
         same_at : (t : Term) → IsToldBy (key fit.rule.head.kind fit.rule.head.parts) t → apply fill t ≡ apply (args_fill s xs) t
         same_at t told = apply_agree fill (args_fill s xs) t (λ k o. sym (same_fill k (told k o)))
@@ -216,7 +238,7 @@ module _ (raw : RawFacts) (item : GenericDefId) (f : System) (of : IsSystemOf ra
             record {
               item = impl;
               listed = has.1;
-              as_many = fill_args_length (log_of x.fills.items) count ∙ counted;
+              as_many = fill_args_length (log_of x.fills.items) fit.rule.head.parts count ∙ counted;
               at = has.2.0;
               rule = fit.rule;
               of = has.2.1;
@@ -224,10 +246,18 @@ module _ (raw : RawFacts) (item : GenericDefId) (f : System) (of : IsSystemOf ra
               asks = same_preds fit.rule.preds fit.holds.told.preds;
             }
 
-      pub by_impl : (count : ℕ) → count ≡ length impl.params → (args : List GenericArg) → args ≡ fill_args (log_of x.fills.items) count → (ks : List ℕ) (ps ys zs : List Proof) → ArePredsProved raw f fill ps ys fit.rule.preds ks → (r : Result ℕ AllocError)
+      -- a hole that stands in the head stands in the key
+      in_key : (k : Hole) → stands k fit.rule.head.parts ≡ true → stands k (key fit.rule.head.kind fit.rule.head.parts) ≡ true
+      in_key k s = fit.holds.told.head k (stands_occurs k fit.rule.head.parts s)
+
+      takes : (count : ℕ) (k : ℕ) (y : GenericArg) → slice_get (fill_args (log_of x.fills.items) fit.rule.head.parts count) k ≡ Some y → IsTaken w y
+      takes count k y at =
+          args_taken (log_of x.fills.items) fit.rule.head.parts w (reads_may A fill fit.rule.head.parts w fit.holds.part) tells.itself (λ j s. (filled j (in_key j s)).good.type) count k y at
+
+      pub by_impl : (count : ℕ) → count ≡ length impl.params → (args : List GenericArg) → args ≡ fill_args (log_of x.fills.items) fit.rule.head.parts count → (ks : List ℕ) (ps ys zs : List Proof) → ArePredsProved raw f fill ps ys fit.rule.preds ks → (r : Result ℕ AllocError)
           → IfOk r (λ k. IsPushed ys zs (record { goal = g; source = source.Impl id args; children = ks }) k) → IfOk r (λ k. IsProved raw f ps zs g k)
       by_impl count counted args are ks ps ys zs proved r pushed =
-          over (source.Impl id args) fill fill fit.rule.preds
+          over (source.Impl id args) (λ k y at. takes count k y (subst (λ ms. slice_get ms k ≡ Some y) are at)) fill fill fit.rule.preds
           (λ s filling. subst (λ ms. IsSource raw f P s (Own s) (source.Impl id ms) (map (asked_at fill) fit.rule.preds)) (sym are) (unshadowed s filling, impl_at count counted s filling))
           (preds_turn fit.rule.preds tells.preds) ks ps ys zs proved r pushed
 

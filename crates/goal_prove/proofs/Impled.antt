@@ -1,16 +1,16 @@
 -- An impl at the types that stand for its holes, where the head of one of its rules reads as a goal.
-use Rattle.std.specs.Prelude.{◌≡◌, ◌⊎◌, ◌+◌, ◌<◌, ℕ, zero, suc, true, List, [], ◌∷◌, length, map, slice_get, Option, Some, None}
+use Rattle.std.specs.Prelude.{◌≡◌, ◌⊎◌, ◌+◌, ◌<◌, ℕ, zero, suc, true, List, [], ◌∷◌, length, map, slice_get, Option, Some, None, Bool, false, if◌then◌else◌, refl}
 use Rattle.std.proofs.Common.{inl, inr, sym, ap, ◌∙◌, subst, arith, true≢false}
 use Rattle.std.proofs.lemmas.Bool.{or_cases, or_left, or_right}
-use Rattle.std.proofs.lemmas.Option.{same_Some}
-use Rattle.goal_prove.specs.Words.{TypeAliasId, TypeRefId, Hole, Term, hole, leaf, pair, apply, occurs, term, RawTraitRef, RawAssocType, RawGoal, RawImpl, RawFacts, arg_types, Log, found, pair_left, Fill, plain, alias, role, stands, Aliases, Reads, projects, Asked, Rule, key, Each, IsOne, fill_of, holes, type_at, args_at, goal_at, trait_rule, assoc_rule, rules_for, impl_rules, arg_at, args_fill}
+use Rattle.std.proofs.lemmas.Option.{same_Some, slice_get_within}
+use Rattle.goal_prove.specs.Words.{TypeAliasId, TypeRefId, Hole, Term, hole, leaf, pair, apply, occurs, term, RawTraitRef, RawAssocType, RawGoal, RawImpl, RawFacts, arg_types, Log, found, pair_left, Fill, plain, alias, role, stands, Aliases, Reads, projects, Asked, Rule, key, Each, IsOne, fill_of, holes, type_at, args_at, goal_at, trait_rule, assoc_rule, rules_for, said_trait, impl_rules, arg_at, args_fill, IsToldBy, Kind, implements, MayRead, GenericArg, hole_eq_true}
 use Rattle.hir_types.specs.declared.head.Head.TheVariants as head
 use Rattle.hir_types.specs.declared.head.Hole.TheVariants as hole_of
 use Rattle.hir_types.specs.declared.ty.GenericArg.TheVariants as arg
 use Rattle.goal_prove.specs.Words.goal_answers.Reading.{Role}
-use Rattle.goal_prove.proofs.Words.{ReadsBy, stands_by, get_in_map, args_holes, type_read_back, counted_at, counted_length}
+use Rattle.goal_prove.proofs.Words.{ReadsBy, stands_by, get_in_map, args_holes, type_read_back, counted_at, counted_length, MayReadBy}
 use Rattle.goal_prove.specs.Words.goal_terms.Bindings.{given}
-use Rattle.goal_prove.specs.Own.{IsOfType, IsGood, AreGood, IsGoodGoal, AliasIsGood, type_or_unknown, fill_args}
+use Rattle.goal_prove.specs.Own.{IsOfType, IsGood, AreGood, IsGoodGoal, AliasIsGood, type_or_unknown, fill_args, told_fill, IsIn, IsTaken}
 use Rattle.goal_prove.proofs.Holes.{whole_stays}
 use Rattle.goal_prove.proofs.TypeTerms.{no_leaf, args_role}
 use Rattle.goal_prove.proofs.Sources.{told_good}
@@ -76,7 +76,7 @@ module _ (A : Aliases) (one : IsOne A) (alias_good : AliasIsGood A) (raw : RawFa
   filled_by t r w (inr (x, e)) = subst (λ y. Filled y w) e (assoc_filled t x w)
 
   pub rule_filled : (i : ℕ) (r : Rule) → slice_get (impl_rules raw p) i ≡ Some r → (w : Term) → Filled r w
-  rule_filled i r listed w = let q = rule_cases raw p p.trait_ i r listed in filled_by q.0 r w q.1
+  rule_filled i r listed w = let q = rule_cases raw p (said_trait raw p.trait_) i r listed in filled_by q.0 r w q.1
 
   -- its predicates, of which each hole is told
   abbrev PredsGood : List Asked → Type 0
@@ -91,7 +91,7 @@ module _ (A : Aliases) (one : IsOne A) (alias_good : AliasIsGood A) (raw : RawFa
   preds_by t r (inr (x, e)) = subst (λ (y : Rule). PredsGood y.preds) e (written_good p.preds)
 
   pub preds_good : (i : ℕ) (r : Rule) → slice_get (impl_rules raw p) i ≡ Some r → PredsGood r.preds
-  preds_good i r listed = let q = rule_cases raw p p.trait_ i r listed in preds_by q.0 r q.1
+  preds_good i r listed = let q = rule_cases raw p (said_trait raw p.trait_) i r listed in preds_by q.0 r q.1
 
 -- ---- the arguments, as types
 
@@ -100,15 +100,73 @@ type_back (Some t) is = sym (type_read_back t is)
 type_back None is = absurd (no_leaf head.End is.0 is.1)
 
 -- one for each parameter
-pub fill_args_length : (l : Log) (n : ℕ) → length (fill_args l n) ≡ n
-fill_args_length l n = counted_length (λ k. arg.Ty (type_or_unknown (found l (hole_of.Ty k)))) 0 n
+pub fill_args_length : (l : Log) (h : Term) (n : ℕ) → length (fill_args l h n) ≡ n
+fill_args_length l h n = counted_length (λ k. arg.Ty (type_or_unknown (told_fill l h (hole_of.Ty k)))) 0 n
 
-module _ (l : Log) (n : ℕ) (s : Fill) where
-  -- for a parameter's hole stands its type
-  pub fill_is : (k : Hole) (j : ℕ) → j < n → k ≡ hole_of.Ty j → IsGood (fill_of l k) → args_fill s (fill_args l n) k ≡ fill_of l k
-  fill_is k j less e good =
+-- what stands in the key stands in the head
+key_occurs : (c : Kind) (t : Term) (k : Hole) → stands k (key c t) ≡ true → occurs k t ≡ true
+key_occurs (implements i) t k s = stands_occurs k t s
+key_occurs (projects i) (pair a b) k s = or_left (occurs k a) (occurs k b) (stands_occurs k a s)
+key_occurs (projects i) (hole j) k s = absurd (true≢false (sym s))
+key_occurs (projects i) (leaf x) k s = absurd (true≢false (sym s))
+
+told_is : (l : Log) (h : Term) (k : Hole) → occurs k h ≡ true → told_fill l h k ≡ found l k
+told_is l h k e = ap (λ (b : Bool). if b then found l k else None) e
+
+module _ (l : Log) (c : Kind) (h : Term) (n : ℕ) (s : Fill) where
+  -- for a parameter's hole that stands in the key stands its type
+  pub fill_is : (k : Hole) (j : ℕ) → j < n → k ≡ hole_of.Ty j → stands k (key c h) ≡ true → IsGood (fill_of l k) → args_fill s (fill_args l h n) k ≡ fill_of l k
+  fill_is k j less e st good =
       let e0 : 0 + j ≡ j = omega arith in
-      let P : Hole → Type 0 = λ x. IsGood (fill_of l x) → args_fill s (fill_args l n) x ≡ fill_of l x in
-      subst P (sym e) (λ h.
-      ap (λ o. arg_at s o (hole_of.Ty j)) (counted_at (λ m. arg.Ty (type_or_unknown (found l (hole_of.Ty m)))) 0 n j less ∙ ap (λ m. Some (arg.Ty (type_or_unknown (found l (hole_of.Ty m))))) e0)
-      ∙ (ap (apply s) (type_back (found l (hole_of.Ty j)) h.type) ∙ whole_stays s (fill_of l (hole_of.Ty j)) h.whole)) good
+      let argument : ℕ → GenericArg = λ m. arg.Ty (type_or_unknown (told_fill l h (hole_of.Ty m))) in
+      let P : Hole → Type 0 = λ x. stands x (key c h) ≡ true → IsGood (fill_of l x) → args_fill s (fill_args l h n) x ≡ fill_of l x in
+      subst P (sym e) (λ here own.
+      ap (λ o. arg_at s o (hole_of.Ty j))
+      (counted_at argument 0 n j less ∙ (ap (λ m. Some (argument m)) e0 ∙ ap (λ (o : Option Term). Some (arg.Ty (type_or_unknown o))) (told_is l h (hole_of.Ty j) (key_occurs c h (hole_of.Ty j) here))))
+      ∙ (ap (apply s) (type_back (found l (hole_of.Ty j)) own.type) ∙ whole_stays s (fill_of l (hole_of.Ty j)) own.whole)) st good
+
+-- ---- what they are taken from
+
+itself_in : (t : Term) → IsIn t t
+itself_in (hole k) = refl
+itself_in (leaf x) = refl
+itself_in (pair a b) = inl refl
+
+-- what a told hole stands for is part of what is read
+told_in : (p : Fill) (t w : Term) → MayRead p t w → (k : Hole) → stands k t ≡ true → IsIn (p k) w
+told_in p (hole j) w r k s = subst (λ x. IsIn x w) (r ∙ ap p (sym (hole_eq_true k j s))) (itself_in w)
+told_in p (leaf x) w r k s = absurd (true≢false (sym s))
+told_in p (pair a b) w r k s = by_role (role a) (λ v x. told_in p a v x k) (λ v x. told_in p b v x k) r s
+  where
+    Told : Term → Type 0
+    Told t = (v : Term) → MayRead p t v → stands k t ≡ true → IsIn (p k) v
+
+    by_role : (x : Role) → Told a → Told b → MayReadBy x p a b w → stands_by x k a b ≡ true → IsIn (p k) w
+    by_role plain left right r s = elim (or_cases (stands k a) (stands k b) s) [
+      | inl e ↦ subst (IsIn (p k)) (sym r.2) (inr (inl (left r.0 r.3 e)))
+      | inr e ↦ subst (IsIn (p k)) (sym r.2) (inr (inr (right r.1 r.4 e)))
+    ]
+    by_role (alias m) left right r s = absurd (true≢false (sym s))
+
+module _ (l : Log) (h w : Term) (reads : MayRead (fill_of l) h w) (told : IsToldBy h h) (types : (k : Hole) → stands k h ≡ true → IsOfType (fill_of l k)) where
+  abbrev argument : ℕ → GenericArg
+  argument j = arg.Ty (type_or_unknown (told_fill l h (hole_of.Ty j)))
+
+  none_told : (k : Hole) → occurs k h ≡ false → told_fill l h k ≡ None
+  none_told k e = ap (λ (b : Bool). if b then found l k else None) e
+
+  taken_by : (j : ℕ) (b : Bool) → occurs (hole_of.Ty j) h ≡ b → IsTaken w (argument j)
+  taken_by j false e = subst (λ (o : Option Term). IsTaken w (arg.Ty (type_or_unknown o))) (sym (none_told (hole_of.Ty j) e)) (inl refl)
+  taken_by j true e =
+      let k = hole_of.Ty j in
+      let s = told k e in
+      let is : term (type_or_unknown (found l k)) ≡ fill_of l k = type_back (found l k) (types k s) in
+      subst (λ (o : Option Term). IsTaken w (arg.Ty (type_or_unknown o))) (sym (told_is l h k e)) (inr (subst (λ t. IsIn t w) (sym is) (told_in (fill_of l) h w reads k s)))
+
+  -- each of these types is
+  pub args_taken : (n j : ℕ) (x : GenericArg) → slice_get (fill_args l h n) j ≡ Some x → IsTaken w x
+  args_taken n j x at =
+      let less : j < n = subst (λ m. j < m) (fill_args_length l h n) (slice_get_within (fill_args l h n) j x at) in
+      let e0 : 0 + j ≡ j = omega arith in
+      let here : slice_get (fill_args l h n) j ≡ Some (argument j) = counted_at argument 0 n j less ∙ ap (λ m. Some (argument m)) e0 in
+      subst (IsTaken w) (same_Some (argument j) x (sym here ∙ at)) (taken_by j (occurs (hole_of.Ty j) h) refl)

@@ -4,7 +4,7 @@ use Rattle.std.specs.List.{range_with_len}
 use Rattle.std.proofs.Common.{inl, inr, sym, ap, ap₂, ◌∙◌, subst, arith}
 use Rattle.std.proofs.lemmas.Bool.{or_left, or_right}
 use Rattle.std.proofs.lemmas.Option.{same_Some}
-use Rattle.goal_prove.specs.Words.{ImplId, TypeAliasId, TypeRefId, GenericDefId, Hole, GenericArg, with_params, Term, hole, leaf, pair, node, chain, apply, occurs, hole_number, type_part, term, arg_term, arg_term_type, term_error, term_var, hole_eq_same, pair_left, pair_right, RawGoal, RawTraitRef, RawAssocType, RawImpl, RawFacts, arg_types, count_or_none, params_in_trait, generic_params, Fill, staying, Aliases, Reads, stands, Kind, implements, projects, Asked, Rule, asked_at, args_of, type_of, key, self_type, IsOne, IsNth, holes, own_params, type_at, args_at, goal_at, own_clause, IsStated, trait_holes, IsSuper, BoundSays, IsListed, trait_rule, assoc_rule, rules_for, HasHolesBelow, ImplHasRule, fact, ClausesAre}
+use Rattle.goal_prove.specs.Words.{ImplId, TypeAliasId, TypeRefId, GenericDefId, Hole, GenericArg, with_params, Term, hole, leaf, pair, node, chain, apply, occurs, hole_number, type_part, term, arg_term, arg_term_type, term_error, term_var, hole_eq_same, pair_left, pair_right, RawGoal, RawTraitRef, RawAssocType, RawImpl, RawFacts, arg_types, count_or_none, params_in_trait, generic_params, Fill, staying, Aliases, Reads, stands, Kind, implements, projects, Asked, Rule, asked_at, args_of, type_of, key, self_type, IsOne, IsNth, holes, own_params, type_at, args_at, goal_at, own_clause, IsStated, trait_holes, IsSuper, BoundSays, IsListed, trait_rule, assoc_rule, rules_for, said_trait, HasHolesBelow, ImplHasRule, fact, ClausesAre}
 use Rattle.hir_types.specs.declared.head.Head.TheVariants as head
 use Rattle.hir_types.specs.declared.head.Hole.TheVariants as hole_of
 use Rattle.hir_types.specs.declared.ty.GenericArg.TheVariants as arg
@@ -289,7 +289,7 @@ module _ (A : Aliases) (one : IsOne A) (alias_good : AliasIsGood A) where
 
   pub impl_gives : (raw : RawFacts) (id : ImplId) (r : Rule) → ImplHasRule raw id r → IsTold r → (k : TypeAliasId) → r.head.kind ≡ projects k → (at : Fill) (w u : Term) → AreGood w → Reads A at (args_of r.head.parts) w → Reads A at (type_of r.head.parts) u → IsGood u
   impl_gives raw id r (p, here, (i, listed)) told k kind at w u good args reads =
-      let q = rule_of_alias raw p p.trait_ i r listed k kind in
+      let q = rule_of_alias raw p (said_trait raw p.trait_) i r listed k kind in
       let n = length p.params in
       let ws = p.self_ ∷ arg_types q.0.args in
       let own : IsTold (assoc_rule raw p q.0 q.1) = subst IsTold (sym q.2) told in

@@ -1,7 +1,7 @@
 -- What a step to a proof is asked, of goals that are read, and what it finds.
-use Rattle.std.specs.Prelude.{◌≡◌, ◌⊎◌, ℕ, suc, true, false, List, [], ◌∷◌, map, slice_get, Option, Some, None}
+use Rattle.std.specs.Prelude.{◌≡◌, ◌⊎◌, ℕ, suc, true, false, List, [], ◌∷◌, map, slice_get, Option, Some, None, if◌then◌else◌}
 use Rattle.std.specs.List.{range_with_len}
-use Rattle.goal_prove.specs.Words.{Goal, GenericArg, Ty, type_of_term, Term, apply, RawFacts, Log, found, Fill, IsFilling, Aliases, Reads, ReadsAs, Kind, Asked, Rule, System, is_among, Each, SomeOf, Verdicts, Shadows, Proves, YesAt, answers, CopyYes, IsDeep, known_below, HoldsAt, log_of, fill_of, IsDone, PredIsDone, Proof, asked_goal, filled_goal}
+use Rattle.goal_prove.specs.Words.{Goal, GenericArg, Ty, type_of_term, Term, apply, RawFacts, Log, found, Fill, IsFilling, Aliases, Reads, ReadsAs, Kind, Asked, Rule, System, is_among, Each, SomeOf, Verdicts, Shadows, Proves, YesAt, answers, CopyYes, IsDeep, known_below, HoldsAt, log_of, fill_of, IsDone, PredIsDone, Proof, asked_goal, filled_goal, IsRead, occurs, Hole}
 use Rattle.hir_types.specs.declared.head.Hole.TheVariants as hole_of
 use Rattle.hir_types.specs.declared.ty.GenericArg.TheVariants as arg
 use Rattle.hir_types.specs.declared.ty.Ty.TheVariants as ty
@@ -52,8 +52,12 @@ abbrev pub type_or_unknown : Option Term → Ty
 type_or_unknown (Some t) = type_of_term t
 type_or_unknown None = ty.Error
 
-abbrev pub fill_args : Log → ℕ → List GenericArg
-fill_args l n = map (λ k. arg.Ty (type_or_unknown (found l (hole_of.Ty k)))) (range_with_len 0 n)
+-- of a hole of the head
+abbrev pub told_fill : Log → Term → Hole → Option Term
+told_fill l h k = if occurs k h then found l k else None
+
+abbrev pub fill_args : Log → Term → ℕ → List GenericArg
+fill_args l h n = map (λ k. arg.Ty (type_or_unknown (told_fill l h (hole_of.Ty k)))) (range_with_len 0 n)
 
 -- ---- what a step comes to
 
@@ -74,6 +78,7 @@ pub record IsProofFor (raw : RawFacts) (f : System) (p : Fill) (ps : List Proof)
   pub reads : Reads (deep_alias raw f) p q.parts target
   pub proof : Proof
   pub at : slice_get ps number ≡ Some proof
+  pub read : IsRead (asked_goal proof.goal).parts
   pub same : ReadsTo raw f proof.goal q.kind target
 
 abbrev pub AreProofsFor : RawFacts → System → Fill → List Proof → List Asked → List ℕ → Type 0

@@ -24,4 +24,4 @@ pub use Rattle.goal_select.specs.Words.{Log, found, IsFront, apply_agree, hole_e
 pub use Rattle.goal_select.specs.Words.{Gives, GivesNone, HasSource, IsItself, IsNeverItself, Proves, Shadows, ShadowsNot, YesAt, alias_next, answers, nothing, Asked, Each, IsKnown, IsToldBy, Kind, OneIf, OneOf, Rule, SomeOf, System, Verdicts, args_of, asked_at, implements, is_among, key, only, projects, self_type, type_of, IsOne, Aliases, Fill, IsFilling, IsRead, MayRead, Reads, ReadsAs, alias, plain, role, stands, staying, Copied, CopyYes, EachType, IsNth, SizedYes, by_impls, copied, copied_head, types_of, unclear, with_part, with_parts, CopiesParts, IsDeep, HoldsAt, HoldsIf, ReadingIs, known_below}
 pub use Rattle.goal_select.specs.Words.{fill_of, log_of, HasHeads, term_of}
 pub use Rattle.goal_select.specs.Words.{holes_fill, Decides, IsDone, IsLevelBelow, PredIsDone, RuleHasHeads, SystemHasHeads, asked_list, asked_of, kind_of, rule_of, rules_of, system, Answer, Sources}
-pub use Rattle.goal_select.specs.Words.{args_at, goal_at, holes, own_params, type_at, BoundSays, IsListed, IsStated, IsSuper, own_clause, trait_holes, asked_goal, ComesFrom, HasHolesBelow, ImplHasRule, assoc_rule, impl_rules, rules_for, trait_rule, AreProofs, AreProofsOf, Holds, IsBuiltIn, IsClause, IsImplAt, IsListedBound, IsProofOf, IsSource, IsUnshadowed, MayHaveSource, arg_at, args_fill, filled_goal, ClausesAre, IsSystemOf, fact, Proof, ProofSource}
+pub use Rattle.goal_select.specs.Words.{args_at, goal_at, holes, own_params, type_at, BoundSays, IsListed, IsStated, IsSuper, own_clause, trait_holes, asked_goal, ComesFrom, HasHolesBelow, ImplHasRule, assoc_rule, impl_rules, rules_for, said_trait, trait_rule, AreProofs, AreProofsOf, Holds, IsBuiltIn, IsClause, IsImplAt, IsListedBound, IsProofOf, IsSource, IsUnshadowed, MayHaveSource, arg_at, args_fill, filled_goal, ClausesAre, IsSystemOf, fact, Proof, ProofSource}

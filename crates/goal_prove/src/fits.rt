@@ -4,8 +4,8 @@ ghost use Rattle.goal_prove.specs.Words.{Each, answers, known_below, term_of, ki
 ghost use Rattle.goal_prove.specs.Own.{FitIs};
 
 use crate::lower::fits;
-use goal_select::goal_search::{Kind, Rule, Search, is_same_kind};
-use goal_select::goal_terms::{Binding, Term};
+use goal_search::{Kind, Rule, Search, is_same_kind};
+use goal_terms::{Binding, Term};
 use std::alloc::AllocError;
 
 /// A rule that holds, by its place, and what stands for its holes.

@@ -2,8 +2,8 @@
 ghost use Rattle.std.specs.Prelude.{IfOk};
 ghost use Rattle.goal_prove.specs.Own.{IsPushed, IsProofIf};
 
-use goal_select::goal_facts::{Proof, ProofSource, asked, is_same};
-use goal_select::hir_facts::{Goal, List};
+use goal_facts::{Proof, ProofSource, asked, is_same};
+use hir_facts::{Goal, List};
 use std::alloc::{AllocError, Global};
 
 /// The number of a proof of the goal, but for lifetimes, that is listed from this number on.

@@ -3,10 +3,10 @@ ghost use Rattle.std.specs.Prelude.{◌≡◌, IfOk, option_map};
 ghost use Rattle.goal_prove.specs.Words.{Goal, key, IsKnown, IsItself, IsNeverItself, answers, known_below, HoldsIf, term_of, log_of, fill_of, kind_of, rule_of, asked_of, asked_list, system, Decides, IsDone, IsLevelBelow, RuleHasHeads, SystemHasHeads, asked_goal};
 ghost use Rattle.goal_prove.specs.Own.{CopiesAre};
 
-use goal_select::goal_facts::ItemSources;
-use goal_select::goal_search::{Answer, Asked, Copies, Kind, Rule, Search, Side, Sources};
-use goal_select::goal_terms::{Binding, Term};
-use goal_select::hir_facts::Goal;
+use goal_facts::ItemSources;
+use goal_search::{Answer, Asked, Copies, Kind, Rule, Search, Side, Sources};
+use goal_terms::{Binding, Term};
+use hir_facts::Goal;
 use std::alloc::{AllocError, Global};
 
 /// A search among the sources.
@@ -48,7 +48,7 @@ pub fn is_itself(alloc: Global, kind: Kind, target: &Term) -> Result<Answer, All
     requires known { IsKnown (key (kind_of kind) (term_of target.now)) }
     ensures { IfOk result (λ answer. Decides (IsItself (kind_of kind) (term_of target.now)) (IsNeverItself (kind_of kind) (term_of target.now)) answer) }
 {
-    let answer = goal_select::goal_search::is_itself(alloc, kind, target)?;
+    let answer = goal_search::is_itself(alloc, kind, target)?;
     Ok(answer)
 }
 
@@ -61,7 +61,7 @@ pub fn copied_goals(
 ) -> Result<Option<Vec<Asked>>, AllocError>
     ensures { IfOk result (λ found. CopiesAre (system sources.now) (kind_of kind) (term_of target.now) (option_map (λ v. asked_list v.items) found)) }
 {
-    match goal_select::goal_search::copied_goals(alloc, sources, kind, target)? {
+    match goal_search::copied_goals(alloc, sources, kind, target)? {
         Copies::Of(goals) => Ok(Some(goals)),
         Copies::Known(_) => Ok(None),
     }
@@ -71,6 +71,6 @@ pub fn copied_goals(
 pub fn goal_of(alloc: Global, asked: &Asked) -> Result<Goal, AllocError>
     ensures { IfOk result (λ made. (g : Goal) → asked_goal g ≡ asked_of asked.now → asked_goal made ≡ asked_of asked.now) }
 {
-    let goal = goal_select::goal_facts::goal_of(alloc, asked)?;
+    let goal = goal_facts::goal_of(alloc, asked)?;
     Ok(goal)
 }

@@ -7,10 +7,10 @@ use crate::fits::{Found, find_fit};
 use crate::listed::{proof_since, push_proof};
 use crate::lower::{copied_goals, goal_of, is_itself, search_of, sources_of};
 use crate::types::fill_args;
-use goal_select::goal_facts::{Answer, ItemSources, Proof, ProofSource, asked};
-use goal_select::goal_search::{Asked, Holes, Kind, MOST_LEVELS, Search, is_among};
-use goal_select::goal_terms::Term;
-use goal_select::hir_facts::{Goal, ImplId, List};
+use goal_facts::{Answer, ItemSources, Proof, ProofSource, asked};
+use goal_search::{Asked, Holes, Kind, MOST_LEVELS, Search, is_among};
+use goal_terms::Term;
+use hir_facts::{Goal, ImplId, List};
 use std::alloc::{AllocError, Global};
 
 /// Adds a proof of a goal that reads as the target, behind those of what its source asks for; gives its
@@ -227,9 +227,10 @@ fn prove_by_impl(
     sources.facts().lawful();
     let listed = sources_of(sources)?;
     let item = sources.facts().impl_(id);
-    let args = fill_args(alloc, found.fills.as_slice(), item.params.len())?;
     let rule = &listed.rules.as_slice()[found.place];
-    let holes = Holes::Filled(found.fills.as_slice());
+    let fills = found.fills.as_slice();
+    let args = fill_args(alloc, fills, &rule.head.parts, item.params.len())?;
+    let holes = Holes::Filled(fills);
     let preds = rule.preds.as_slice();
     let children = prove_all(alloc, sources, search, preds, holes, depth, since, proofs)?;
     push_proof(alloc, goal, ProofSource::Impl(id, args), children, proofs)

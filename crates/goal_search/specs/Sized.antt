@@ -29,4 +29,5 @@ WalkIs f n o left t a = Decides (IsSizedBy f n o left t) (IsUnsizedBy f n o left
 abbrev pub IsSizedAt : System → ℕ → Term → Type 0
 IsSizedAt f n t =
     (u : Term) × ReadsAs (answers f n).Alias t u
-    × SizedYes f (answers f n).Alias (λ x. IsKnown (only x) × SomeOf (λ id. HasSource f (answers f n).Alias (known_below f n) (implements id) (only x)) f.sized) f.tail u
+    × SizedYes f (answers f n).Alias
+    (λ x. IsKnown (only x) × SomeOf (λ id. HasSource f (answers f n).Alias (known_below f n) (implements id) (only x)) f.sized) f.tail u

@@ -16,8 +16,6 @@ mod told;
 pub use answer::Answer;
 pub use choose::Choice;
 pub use first::is_itself;
-pub use goal_terms;
-pub use goal_terms::infer_table;
 pub use holes::Holes;
 pub use parts::{is_among, is_same_kind, key_of, self_type};
 pub use rows::{Copies, copied_goals, field_at};

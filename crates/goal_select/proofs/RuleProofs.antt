@@ -2,7 +2,7 @@
 use Rattle.std.proofs.Common.{◌≡◌, inl, inr, ℕ, zero, suc, true, sym, ap, ◌∙◌, subst, List, [], ◌∷◌, map, slice_get, Option, Some, None, true≢false}
 use Rattle.std.proofs.lemmas.Bool.{or_cases, or_left, or_right}
 use Rattle.std.proofs.lemmas.Option.{same_Some}
-use Rattle.goal_select.specs.Words.{TypeAliasId, Hole, Goal, TraitRef, Term, apply, occurs, RawFacts, RawGoal, RawImpl, RawTraitRef, AllOf, Triangular, State, bindings, hole_count, Meets, AreUnified, Fill, IsRead, IsFilling, Aliases, Asked, Rule, System, asked_at, Each, IsOne, HasProof, Says, by_rule, Selects, HasHeads, concrete_read, concrete_reads, RuleGoals, goal_at, impl_holes, trait_rule, assoc_rule, rules_for, trait_goal, asked_goal, fresh, HasHolesBelow, filled_goal}
+use Rattle.goal_select.specs.Words.{TypeAliasId, Hole, Goal, TraitRef, Term, apply, occurs, RawFacts, RawGoal, RawImpl, RawTraitRef, AllOf, Triangular, State, bindings, hole_count, Meets, AreUnified, Fill, IsRead, IsFilling, Aliases, Asked, Rule, System, asked_at, Each, IsOne, HasProof, Says, by_rule, Selects, HasHeads, concrete_read, concrete_reads, RuleGoals, goal_at, impl_holes, trait_rule, assoc_rule, rules_for, said_trait, trait_goal, asked_goal, fresh, HasHolesBelow, filled_goal}
 use Rattle.hir_types.specs.declared.goal.Goal.TheVariants as goal
 use Rattle.goal_select.specs.Words.goal_answers.Proofs.{IsSource}
 use Rattle.goal_select.proofs.Words.{read_filled, read_reads, AliasIsRead, selected_is_the_source, get_in_map}
@@ -100,7 +100,7 @@ module _ (raw : RawFacts) (f : System) (n : ℕ) (k : TraitRef) (i : ℕ) (selec
   is = ap asked_goal (sym head) ∙ are.head
 
   heads : HaveHeads r.preds
-  heads = rules_heads raw are.source.0 are.source.0.trait_ are.source.2.0 r are.source.2.1
+  heads = rules_heads raw are.source.0 (said_trait raw are.source.0.trait_) are.source.2.0 r are.source.2.1
 
   module _ (table : TypeAliasId → Term → Option Term) (of_table : IsTableOf f n table) (s : Fill) (filling : IsFilling s) (meets : Meets s before) (height : ℕ) (proof : HasProof f (Says table) (suc height) (filled_goal s g)) where
     abbrev P : Aliases

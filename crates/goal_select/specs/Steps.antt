@@ -26,7 +26,8 @@ goal_type r = ty.Adt (record { 0 = 0 }) (out-TraitRef r).args
 
 -- with so many new holes for any type
 abbrev pub with_type_holes : State → ℕ → State
-with_type_holes s n = record s { substitution = record s.substitution { kinds = s.substitution.kinds ++ map (λ j. kind.Ty) (range_with_len 0 n) } }
+with_type_holes s n = record s
+    { substitution = record s.substitution { kinds = s.substitution.kinds ++ map (λ j. kind.Ty) (range_with_len 0 n) } }
 
 -- ---- parts
 
@@ -74,7 +75,8 @@ pub record SystemHasHeadsOf (P : Shape) (f : System) : Type 0 where
 -- no head comes into the table, nor into what is asked for, but those of the table, the goal and the sources
 abbrev pub BringsNoHead : System → State → State → Goal → List Goal → Type 0
 BringsNoHead f before after g qs =
-    (P : Shape) → NoAlias P → (h : Head) → IsTrue (P h 0) → SystemHasHeadsOf P f → BindsOnly P (log_of (bindings before)) → HasHeadsIfConcrete P (asked_goal g) →
+    (P : Shape) → NoAlias P → (h : Head) → IsTrue (P h 0) → SystemHasHeadsOf P f → BindsOnly P (log_of (bindings before))
+    → HasHeadsIfConcrete P (asked_goal g) →
     BindsOnly P (log_of (bindings after)) × Each (λ q. HasHeadsIfConcrete P (asked_goal q)) qs
 
 -- ---- a step
@@ -107,7 +109,8 @@ abbrev pub LosesNothing : System → ℕ → State → State → Goal → List G
 LosesNothing f n before after g qs =
     (table : TypeAliasId → Term → Option Term) → IsTableOf f n table →
     (s : Fill) → IsFilling s → Meets s before → (height : ℕ) → HasProof f (Says table) (suc height) (filled_goal s g) →
-    (t : Fill) × IsFilling t × SameBelow (hole_count before) s t × Meets t after × Each (λ q. HasProof f (Says table) height (filled_goal t q)) qs
+    (t : Fill) × IsFilling t × SameBelow (hole_count before) s t × Meets t after
+    × Each (λ q. HasProof f (Says table) height (filled_goal t q)) qs
 
 pub record IsSelected (raw : RawFacts) (f : System) (n : ℕ) (before after : State) (g : Goal) (made : Selected) : Type 0 where
   pub by : Choice
@@ -139,7 +142,8 @@ IsChosen raw f k by = (n : ℕ) × (n ≤ raw.limits.goal_depth) × Selects f n 
 -- each goal that comes to the one for which it is chosen was selected
 abbrev pub SelectsKnown : RawFacts → System → State → State → TraitRef → Choice → Selected → Type 0
 SelectsKnown raw f before after k by made =
-    (n : ℕ) → n ≤ raw.limits.goal_depth → Selects f n (trait_goal k) by → (g : Goal) → GoalIsOf before g → known_goal before g ≡ goal.Trait k →
+    (n : ℕ) → n ≤ raw.limits.goal_depth → Selects f n (trait_goal k) by → (g : Goal) → GoalIsOf before g
+    → known_goal before g ≡ goal.Trait k →
     IsSelected raw f n before after g made
 
 -- it is built in, and asks for these

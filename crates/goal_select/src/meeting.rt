@@ -3,9 +3,9 @@ ghost use Rattle.std.specs.Prelude.{◌≡◌, IfOk};
 ghost use Rattle.goal_select.specs.Words.{HolesAreOf, AreUnifiedIf};
 ghost use Rattle.goal_select.specs.Own.{goal_type};
 
-use goal_facts::infer_table::InferenceTable;
 use goal_facts::{AdtId, GenericArg, Goal, List, Ty};
 use hir_types::{Folded, TraitRef, Unchanged};
+use infer_table::InferenceTable;
 use std::alloc::{AllocError, Global};
 
 /// A type with the arguments of a trait, by which two goals of one trait are made equal.

@@ -6,9 +6,9 @@ ghost use Rattle.goal_select.specs.Own.{GoalIsOf, with_type_holes, IsKnownIn, Is
 
 use crate::meeting::meet;
 use crate::parts::part_goals;
-use goal_facts::infer_table::InferenceTable;
 use goal_facts::{Choice, GenericArg, Goal, ItemSources, ProofSource, Ty};
 use hir_types::TraitRef;
+use infer_table::InferenceTable;
 use std::alloc::{AllocError, Global};
 
 /// What a goal was selected by, and the goals that this asks for.

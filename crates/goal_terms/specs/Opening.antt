@@ -20,7 +20,8 @@ pub record Lifted (n : ℕ) (names : Log) (q z : Fill) (u x : Term) : Type 0 whe
   pub same : (k : Hole) → hole_number k < n → at k ≡ z k
   pub is : apply at u ≡ x
 
--- `u` is the part `t` with its names and with new holes from `n` to `m` for its aliases: what it is under an assignment is what the part may read as
+-- `u` is the part `t` with its names and with new holes from `n` to `m` for its aliases: what it is under an assignment is what the part
+-- may read as
 pub record Opened (n : ℕ) (before : Log) (m : ℕ) (after : Log) (t u : Term) : Type 0 where
   pub grows : n ≤ m
   pub names : AreNames m after

@@ -16,7 +16,6 @@ pub use binding::{Binding, filled, find, stands_in};
 pub use common::find_common;
 pub use conversions::{args_term, type_term};
 pub use equate::{MOST_DEPTH, make_equal};
-pub use goal_answers::infer_table;
 pub use matching::find_match;
 pub use same::{can_be_itself, can_be_same, staying_term};
 pub use term::{Role, Term};

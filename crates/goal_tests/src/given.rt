@@ -1,9 +1,9 @@
 //! Facts of traits, associated types and impls alone.
-use hir_laws::lawful_facts;
-use infer_goals::hir_facts::{
+use hir_facts::{
     Edition, Facts, List, RawAlias, RawFacts, RawImpl, RawLang, RawLimits, RawTrait, RawType, Text,
     TypeAliasId,
 };
+use hir_laws::lawful_facts;
 use std::alloc::{AllocError, Global};
 
 /// What the facts have.

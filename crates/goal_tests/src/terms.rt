@@ -2,13 +2,13 @@
 ghost use Rattle.std.specs.Prelude.{IfOk};
 ghost use Rattle.goal_tests.specs.Words.{term_of, HasHeads};
 
+use goal_terms::{
+    Binding, Term, args_term, can_be_itself, can_be_same, filled, find, find_common, find_match,
+    is_concrete, push_holes, staying_term, term_args, term_type, type_term,
+};
 use hir_types::{
     AliasBound, Boxed, Const, GenericArg, Hole, List, Safety, TraitId, TraitRef, Ty, TypeAliasId,
     UintTy,
-};
-use infer_goals::goal_terms::{
-    Binding, Term, args_term, can_be_itself, can_be_same, filled, find, find_common, find_match,
-    is_concrete, push_holes, staying_term, term_args, term_type, type_term,
 };
 use std::alloc::{AllocError, Global};
 use std::test::Fail;

@@ -2,9 +2,9 @@
 ghost use Rattle.std.specs.Prelude.{◌≡◌, IfOk, OnOk};
 ghost use Rattle.goal_tests.specs.Words.{only_goal, IsTree};
 
-use infer_goals::goal_facts::ProofSource;
-use infer_goals::goal_tree::GoalTree;
-use infer_goals::hir_facts::{ExprId, ExprOrPatId, GenericArg, Goal, List, TraitId, TraitRef, Ty};
+use goal_facts::ProofSource;
+use goal_tree::GoalTree;
+use hir_facts::{ExprId, ExprOrPatId, GenericArg, Goal, List, TraitId, TraitRef, Ty};
 use std::alloc::{AllocError, Global};
 use std::test::Fail;
 

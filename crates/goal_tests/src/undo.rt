@@ -4,9 +4,9 @@ ghost use Rattle.goal_tests.specs.Words.{Grew, GoesOn, KeepsGoals};
 
 use crate::given::{Items, given, plain_trait};
 use crate::tree::{NODE, implements};
+use hir_facts::{Facts, GenericDefId, List, RawLang, TraitId, Ty, UintTy};
 use infer_goals::GoalTable;
-use infer_goals::hir_facts::{Facts, GenericDefId, List, RawLang, TraitId, Ty, UintTy};
-use infer_goals::infer_table::{InferenceTable, NoUnifier};
+use infer_table::{InferenceTable, NoUnifier};
 use std::alloc::{AllocError, Global};
 use std::process::Abort;
 use std::test::Fail;

@@ -1,6 +1,6 @@
 //! Pairs of types, with whether they could be the same worked out by hand.
 use crate::given::{Items, given, plain_trait};
-use infer_goals::hir_facts::{
+use hir_facts::{
     Canonical, Facts, GenericArg, GenericDefId, HoleKind, ImplId, IntegerTy, List, OpaqueId,
     RawAlias, RawArgs, RawAssocType, RawImpl, RawTraitRef, RawType, Text, TraitId, Ty, TypeAliasId,
     TypeRefId, UintTy,

@@ -43,11 +43,13 @@ pub record AreAskedBy (os : List Obligation) (i m n : ℕ) : Type 0 where
 -- an obligation that names another is one of those that the other's source asks for; and where the other is proved, so is it
 pub record IsAskedBy (ss : List Standing) (i p : ℕ) : Type 0 where
   pub before : p < i
-  pub by : ((src : ProofSource) × (m : ℕ) × (n : ℕ) × IsSelectedAt ss p src m n × (m ≤ i) × (i < m + n)) ⊎ (IsProvedAt ss p × IsProvedAt ss i)
+  pub by : ((src : ProofSource) × (m : ℕ) × (n : ℕ) × IsSelectedAt ss p src m n × (m ≤ i) × (i < m + n))
+      ⊎ (IsProvedAt ss p × IsProvedAt ss i)
 
 -- the proof's children are those of the obligations from number `m` on, in their order, each before the proof `k`
 abbrev pub AreChildren : List Standing → ℕ → List ℕ → ℕ → ℕ → Type 0
-AreChildren ss k cs m n = (length cs ≡ n) × ((j c : ℕ) → slice_get cs j ≡ Some c → (c < k) × ((a : ℕ) × (b : ℕ) × (slice_get ss (m + j) ≡ Some (standing.Proved c a b))))
+AreChildren ss k cs m n = (length cs ≡ n)
+    × ((j c : ℕ) → slice_get cs j ≡ Some c → (c < k) × ((a : ℕ) × (b : ℕ) × (slice_get ss (m + j) ≡ Some (standing.Proved c a b))))
 
 pub record IsProofAt (os : List Obligation) (ss : List Standing) (ps : List Proof) (i k m n : ℕ) : Type 0 where
   pub obligation : Obligation
@@ -66,8 +68,10 @@ pub record IsTreeBut (at : ℕ → Type 0) (t : GoalTree) : Type 0 where
   pub as_many : length t.standings.items ≡ length t.obligations.items
   pub parents : (i p : ℕ) (o : Obligation) → slice_get t.obligations.items i ≡ Some o → o.parent ≡ Some p → IsAskedBy t.standings.items i p
   pub selected : (i m n : ℕ) (src : ProofSource) → HasSource t i src m n → AreAskedBy t.obligations.items i m n
-  pub proved : (i k m n : ℕ) → slice_get t.standings.items i ≡ Some (standing.Proved k m n) → IsProofAt t.obligations.items t.standings.items t.proofs.items i k m n
-  pub owned : (k : ℕ) (x : Proof) → slice_get t.proofs.items k ≡ Some x → (i : ℕ) × (m : ℕ) × (n : ℕ) × (slice_get t.standings.items i ≡ Some (standing.Proved k m n))
+  pub proved : (i k m n : ℕ) → slice_get t.standings.items i ≡ Some (standing.Proved k m n)
+      → IsProofAt t.obligations.items t.standings.items t.proofs.items i k m n
+  pub owned : (k : ℕ) (x : Proof) → slice_get t.proofs.items k ≡ Some x → (i : ℕ) × (m : ℕ) × (n : ℕ)
+      × (slice_get t.standings.items i ≡ Some (standing.Proved k m n))
   pub waits : (i m n : ℕ) (src : ProofSource) → IsSelectedAt t.standings.items i src m n → (at i → ⊥) → SomeUnproved t.standings.items m n
 
 abbrev pub IsTree : GoalTree → Type 0
@@ -106,7 +110,8 @@ AreProvedAs ss m n None = SomeUnproved ss m n
 pub record IsLater (t u : GoalTree) : Type 0 where
   pub obligations : IsFront t.obligations.items u.obligations.items
   pub sources : (i m n : ℕ) (src : ProofSource) → HasSource t i src m n → HasSource u i src m n
-  pub proved : (i k m n : ℕ) → slice_get t.standings.items i ≡ Some (standing.Proved k m n) → slice_get u.standings.items i ≡ Some (standing.Proved k m n)
+  pub proved : (i k m n : ℕ) → slice_get t.standings.items i ≡ Some (standing.Proved k m n)
+      → slice_get u.standings.items i ≡ Some (standing.Proved k m n)
   pub proofs : IsFront t.proofs.items u.proofs.items
 
 -- the obligation `at`, whose source asks for `n` from number `m` on, has the next proof
@@ -131,7 +136,8 @@ IsProvedUpTo t u at None = IsMoreProved t u × IsTree u
 pub record IsSelectedBy (t u : GoalTree) (at : ℕ) (src : ProofSource) (gs : List Goal) : Type 0 where
   pub later : IsLater t u
   pub source : HasSource u at src (length t.obligations.items) (length gs)
-  pub asked : (o : Obligation) → slice_get t.obligations.items at ≡ Some o → u.obligations.items ≡ t.obligations.items ++ map (asked_by o.node (o.depth - 1) at) gs
+  pub asked : (o : Obligation) → slice_get t.obligations.items at ≡ Some o
+      → u.obligations.items ≡ t.obligations.items ++ map (asked_by o.node (o.depth - 1) at) gs
   pub others : (i m n : ℕ) (s : ProofSource) → HasSource u i s m n → (i ≡ at) ⊎ HasSource t i s m n
   pub still_open : (i : ℕ) → (i ≡ at → ⊥) → IsOpenAt t.standings.items i → IsOpenAt u.standings.items i
   pub new_open : (i : ℕ) → length t.obligations.items ≤ i → i < length u.obligations.items → IsOpenAt u.standings.items i

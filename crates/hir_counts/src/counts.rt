@@ -1,14 +1,14 @@
 //! Counts of inputs, arguments, parameters and variants.
 ghost use Rattle.std.specs.Prelude.{◌≡◌, ◌↔◌, ◌+◌, ◌<◌, ℕ, Some, [], length, slice_get, slice_index, IsTrue, IfOk, IfSome};
-ghost use Rattle.hir_counts.specs.Words.{RawField, Said, AllHold, ChildrenBefore, param_bound, wrong_args, count_of, CountsFit, AdtFitsBy, TypeFits, MentionFits, BodyFits, MaybeBodyFits, body_at, AreFitting, FnFitsBy, FnFits, HasVariants, AdtFits, param_count, IsBare, VariantFitsBy, VariantFits};
+ghost use Rattle.hir_counts.specs.Words.{RawField, Said, AllHold, ChildrenBefore, param_bound, wrong_args, count_of, CountsFit, AdtFitsBy, TypeFits, ConstFits, MentionFits, BodyFits, MaybeBodyFits, body_at, AreFitting, FnFitsBy, FnFits, HasVariants, AdtFits, param_count, IsBare, VariantFitsBy, VariantFits};
 ghost use Rattle.hir_counts.specs.Own.{number_in, AreMosts};
 
 use crate::goal_counts::goals_fit;
 use crate::standing::{Sought, mosts_of};
-use hir_ids::hir_raw::{
-    Mention, RawAdt, RawAdtKind, RawBody, RawFacts, RawField, RawFn, RawVariant, Said,
-};
 use hir_ids::{Test, said_of_body};
+use hir_raw::{
+    Mention, RawAdt, RawAdtKind, RawBody, RawConst, RawFacts, RawField, RawFn, RawVariant, Said,
+};
 use hir_types::{AdtId, BodyId, TypeRefId};
 use std::alloc::{AllocError, Global};
 
@@ -74,11 +74,22 @@ pub fn fits(standing: &Standing, count: usize, ty: TypeRefId) -> bool
         && number_at(&standing.wrongs, ty.0 as usize) == 0
 }
 
+fn const_fits(written: RawConst) -> bool
+    ensures { IsTrue result ↔ ConstFits written }
+{
+    match written {
+        RawConst::Value(_) | RawConst::Unknown | RawConst::Hole => true,
+        RawConst::Param(_) => false,
+    }
+}
+
 fn mention_fits(standing: &Standing, count: usize, mention: Mention) -> bool
     ensures { IsTrue result ↔ MentionFits (number_in standing.now.bounds.items) (number_in standing.now.wrongs.items) count mention }
 {
     match mention {
         Mention::Type(ty) => fits(standing, count, ty),
+        Mention::ConstParam(_) => false,
+        Mention::Const(written) => const_fits(written),
         _ => true,
     }
 }

@@ -6,7 +6,7 @@ ghost use Rattle.hir_counts.specs.Words.hir_facts.Counts.{alias_params};
 
 use crate::counts::{Standing, are_fitting, fits};
 use hir_ids::Test;
-use hir_ids::hir_raw::{RawAlias, RawAssocType, RawFacts, RawGoal, RawImpl, RawTrait, RawTraitRef};
+use hir_raw::{RawAlias, RawAssocType, RawFacts, RawGoal, RawImpl, RawTrait, RawTraitRef};
 use hir_types::{TraitId, TypeAliasId, TypeRefId};
 use std::alloc::{AllocError, Global};
 

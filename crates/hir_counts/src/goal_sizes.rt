@@ -4,7 +4,7 @@ ghost use Rattle.hir_counts.specs.Words.{RawGoal, arg_types, IsShort, GoalIsShor
 
 use crate::sizes::{is_early, is_short};
 use hir_ids::Test;
-use hir_ids::hir_raw::{RawAlias, RawFacts, RawGoal, RawImpl, RawLang, RawTrait, RawTraitRef};
+use hir_raw::{RawAlias, RawFacts, RawGoal, RawImpl, RawLang, RawTrait, RawTraitRef};
 use std::alloc::{AllocError, Global};
 
 fn goal_is_short(goal: &RawGoal) -> bool

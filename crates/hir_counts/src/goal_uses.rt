@@ -3,7 +3,7 @@ ghost use Rattle.std.specs.Prelude.{◌≡◌, ◌++◌, Some, map, flat_map, On
 ghost use Rattle.hir_counts.specs.Words.{goal_uses, goals_uses, trait_ref_uses, impl_uses};
 
 use crate::uses::push_types;
-use hir_ids::hir_raw::{HasGoals, RawAssocType, RawGoal, RawImpl, RawTraitRef};
+use hir_raw::{HasGoals, RawAssocType, RawGoal, RawImpl, RawTraitRef};
 use std::alloc::AllocError;
 
 fn push_goal(out: &mut Vec<Option<usize>>, goal: &RawGoal) -> Result<(), AllocError>

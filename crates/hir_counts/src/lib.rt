@@ -13,8 +13,6 @@ mod uses;
 pub use counts::{AdtCounts, FnCounts, Standing, VariantCounts, number_at};
 pub use goal_counts::{AliasCounts, ImplCounts, TraitCounts};
 pub use goal_sizes::{AliasSizes, ImplSizes, LangEarly, TraitSizes};
-pub use hir_ids;
-pub use hir_ids::{hir_facts, hir_raw, hir_schedule};
 pub use sizes::{
     AdtSizes, FnSizes, ModulesEarly, TypeSizes, VariantSizes, is_early, is_short, is_short_list,
 };

@@ -5,7 +5,7 @@ ghost use Rattle.hir_counts.specs.Own.{depth_by, size_by, AreMeasures};
 
 use crate::goal_sizes::goals_are_short;
 use hir_ids::Test;
-use hir_ids::hir_raw::{Mention, RawAdt, RawFacts, RawFn, RawType, RawVariant};
+use hir_raw::{Mention, RawAdt, RawFacts, RawFn, RawType, RawVariant};
 use hir_types::{ModuleId, TypeRefId};
 use std::alloc::{AllocError, Global};
 

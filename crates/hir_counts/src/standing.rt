@@ -4,7 +4,7 @@ ghost use Rattle.hir_counts.specs.Words.{most, type_parts, AllHold, ChildrenBefo
 ghost use Rattle.hir_counts.specs.Own.{own_of, AreMosts};
 
 use crate::sizes::{larger, most_of};
-use hir_ids::hir_raw::{RawFacts, RawType, alias_params, has_params};
+use hir_raw::{RawFacts, RawType, alias_params, has_params};
 use std::alloc::{AllocError, Global};
 
 /// What is sought in a written type.

@@ -6,8 +6,8 @@ ghost use Rattle.hir_counts.specs.Own.{AreMosts, AreTypeUsers};
 use crate::counts::number_at;
 use crate::goal_uses::{push_goals_of, push_impls};
 use crate::standing::{Sought, mosts_of};
-use hir_ids::hir_raw::{Mention, RawBody, RawFacts, RawField, RawFn, RawType, RawVariant, Said};
 use hir_ids::{Namers, Test, is_nobody, is_one, namers_of, said_of_body};
+use hir_raw::{Mention, RawBody, RawFacts, RawField, RawFn, RawType, RawVariant, Said};
 use hir_types::TypeRefId;
 use std::alloc::{AllocError, Global};
 

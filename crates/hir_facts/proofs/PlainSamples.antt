@@ -1,7 +1,7 @@
 -- Small samples of what is plain and what is not.
 use Rattle.std.proofs.Common.{◌≡◌, ℕ, zero, suc, Bool, true, false, List, [], ◌∷◌, length, Some, None, refl, sym, ap, ◌∙◌, subst, arith}
 use Rattle.std.specs.Prelude.{codes, slice_get, IsTrue, IsSomeAnd}
-use Rattle.hir_facts.specs.Words.{TypeRefId, VariantId, ExprId, PatId, LabelId, BindingId, FunctionId, ConstId, RawType, RawParam, RawAdtKind, RawAdt, RawCtor, RawField, RawVariant, RawFn, BindingAnnotation, RawExpr, RawBody, RawFacts, Part, expr_part, root, callee, Node, the_body, inner, IsNode, part_at, parts_of_expr}
+use Rattle.hir_facts.specs.Words.{TypeRefId, VariantId, ExprId, PatId, LabelId, BindingId, FunctionId, ConstId, RawType, RawParam, RawAdtKind, RawAdt, RawCtor, RawField, RawVariant, RawFn, BindingAnnotation, RawExpr, LaterExpr, LaterPat, RawBody, RawFacts, Part, expr_part, root, callee, Node, the_body, inner, IsNode, part_at, parts_of_expr}
 use Rattle.hir_types.specs.declared.ids.DefWithBodyId.TheVariants as def
 use Rattle.hir_raw.specs.declared.raw.Edition.TheVariants as edition
 use Rattle.hir_raw.specs.declared.raw.RawType.TheVariants as type
@@ -149,7 +149,7 @@ module _ (raw : RawFacts) (n : ℕ) (function : IsPlainFn raw (record { 0 = 0 })
   part_right : (p q : Part) → Some q ≡ Some p → IsTrue (stands_right raw called q) → IsTrue (stands_right raw called p)
   part_right p q is h = (let same : q ≡ p = cc in subst (λ (o : Part). IsTrue (stands_right raw called o)) same h)
 
-  expr_parts_right : (i k : ℕ) (p : Part) → slice_get (parts_of_expr (slice_get called.exprs i)) k ≡ Some p → IsTrue (stands_right raw called p)
+  expr_parts_right : (i k : ℕ) (p : Part) → slice_get (parts_of_expr called (slice_get called.exprs i)) k ≡ Some p → IsTrue (stands_right raw called p)
   expr_parts_right zero k p found = absurd (cc)
   expr_parts_right (suc zero) zero p found = part_right p (expr_part callee (e 0)) found refl
   expr_parts_right (suc zero) (suc k) p found = absurd (cc)
@@ -280,18 +280,12 @@ record_path_is_not_plain h = let told : false ≡ true = h.0 in absurd (cc)
 
 -- ---- what no plain body has
 
--- a literal, a path, an expression, a pattern of a kind that is not read
-pub other_literal_is_not_plain : (raw : RawFacts) (n : ℕ) → IsPlainExpr raw n (expr.Lit literal.Other) → ⊥
-other_literal_is_not_plain raw n h = let told : false ≡ true = h in absurd (cc)
+-- an expression or a pattern of a kind that inference does not carry yet
+pub later_expression_is_not_plain : (raw : RawFacts) (n : ℕ) (x : LaterExpr) → IsPlainExpr raw n (expr.Later x) → ⊥
+later_expression_is_not_plain raw n x h = h
 
-pub other_path_is_not_plain : (raw : RawFacts) → IsPlainPath raw path.Other → ⊥
-other_path_is_not_plain raw h = h
-
-pub other_expression_is_not_plain : (raw : RawFacts) (n : ℕ) → IsPlainExpr raw n expr.Other → ⊥
-other_expression_is_not_plain raw n h = h
-
-pub other_pattern_is_not_plain : (raw : RawFacts) (b : RawBody) → IsPlainPat raw b pat.Other → ⊥
-other_pattern_is_not_plain raw b h = h
+pub later_pattern_is_not_plain : (raw : RawFacts) (b : RawBody) (x : LaterPat) → IsPlainPat raw b (pat.Later x) → ⊥
+later_pattern_is_not_plain raw b x h = h
 
 -- x @ p
 pub bound_pattern_is_not_plain : (raw : RawFacts) (b : RawBody) (x : BindingId) (p : PatId) → IsPlainPat raw b (pat.Bind x (Some p)) → ⊥

@@ -1,5 +1,5 @@
 -- The body of a definition, and the laws that a walk of it rests on.
-use Rattle.std.specs.Prelude.{ℕ, ◌≡◌, ◌<◌, List, [], length, slice_get, Option, Some, None, IsSome, IsTrue}
+use Rattle.std.specs.Prelude.{ℕ, ◌≡◌, ◌<◌, List, [], length, slice_get, Option, Some, None, IsSome, IsSomeAnd, IsTrue}
 use Rattle.std.specs.Option.{option_and_then}
 use Rattle.hir_facts.specs.Words.{BodyId, ExprId, PatId, BindingId, TypeRefId, DefWithBodyId, RawFn, RawBody, RawFacts, Schedule, Ty, written_type, IsSchedule, PartsFit, Binds, start, inner}
 use Rattle.hir_types.specs.declared.ids.DefWithBodyId.TheVariants as def
@@ -22,6 +22,10 @@ HasBody raw d = IsSome (body_id_of raw d)
 
 abbrev pub body_of : RawFacts → DefWithBodyId → Option RawBody
 body_of raw d = option_and_then (λ i. slice_get raw.bodies i.0) (body_id_of raw d)
+
+-- the definition has a body, which is carried
+abbrev pub HasCarriedBody : RawFacts → DefWithBodyId → Type 0
+HasCarriedBody raw d = IsSomeAnd (body_of raw d) (λ b. IsTrue (is_carried_body b))
 
 abbrev pub output_by : RawFacts → Option RawFn → Ty
 output_by raw None = ty.Error

@@ -1,7 +1,7 @@
 -- Each entry and part is of a kind that is carried.
 use Rattle.std.specs.Prelude.{Bool, true, false, ◌&&◌, List, [], ◌∷◌, Option, Some, None, is_none, not}
 use Rattle.std.specs.List.{list_all}
-use Rattle.hir_facts.specs.Words.{RawType, RawParam, RawAdtKind, RawAdt, RawArgs, RawTraitRef, RawGoal, RawTrait, RawAlias, RawImpl, RawLang, RawCtor, RawVariant, RawAt, RawFn, RawLiteral, RawPath, RawStmt, RawExpr, RawPat, RawBinding, BindingAnnotation, RawBody}
+use Rattle.hir_facts.specs.Words.{RawType, RawParam, RawAdtKind, RawAdt, RawArgs, RawTraitRef, RawGoal, RawTrait, RawAlias, RawImpl, RawLang, RawCtor, RawVariant, RawAt, RawFn, RawPath, RawStmt, RawExpr, RawPat, RawBinding, BindingAnnotation, RawBody}
 use Rattle.hir_raw.specs.declared.raw.RawType.TheVariants as type
 use Rattle.hir_raw.specs.declared.raw.RawParam.TheVariants as param
 use Rattle.hir_raw.specs.declared.raw.RawAdtKind.TheVariants as kind
@@ -10,7 +10,6 @@ use Rattle.hir_raw.specs.declared.raw.RawGoal.TheVariants as goal
 use Rattle.hir_raw.specs.declared.raw.RawLang.TheVariants as lang
 use Rattle.hir_raw.specs.declared.raw.RawCtor.TheVariants as ctor
 use Rattle.hir_raw.specs.declared.raw.RawAt.TheVariants as stands
-use Rattle.hir_raw.specs.declared.raw.RawLiteral.TheVariants as literal
 use Rattle.hir_raw.specs.declared.raw.RawPath.TheVariants as path
 use Rattle.hir_raw.specs.declared.raw.RawStmt.TheVariants as stmt
 use Rattle.hir_raw.specs.declared.raw.RawExpr.TheVariants as expr
@@ -103,19 +102,6 @@ is_carried_lang (lang.Copy t) = true
 is_carried_lang (lang.Clone t) = true
 is_carried_lang lang.Other = false
 
--- a truth value, a character, or an integer with a suffix or without
-abbrev pub is_carried_literal : RawLiteral → Bool
-is_carried_literal (literal.Bool b) = true
-is_carried_literal (literal.Char c) = true
-is_carried_literal (literal.Int digits suffix) = true
-is_carried_literal literal.Other = false
-
-abbrev pub is_carried_path : RawPath → Bool
-is_carried_path (path.Local v) = true
-is_carried_path (path.Function f) = true
-is_carried_path (path.Ctor v) = true
-is_carried_path path.Other = false
-
 -- a `let` has no `else`
 abbrev pub is_carried_stmt : RawStmt → Bool
 is_carried_stmt (stmt.Let p written init other) = is_none other
@@ -123,14 +109,14 @@ is_carried_stmt (stmt.Expr e semicolon) = true
 
 -- a block has no label, and a `match` has an arm
 abbrev pub is_carried_expr : RawExpr → Bool
-is_carried_expr (expr.Lit l) = is_carried_literal l
-is_carried_expr (expr.Path p) = is_carried_path p
+is_carried_expr (expr.Lit l) = true
+is_carried_expr (expr.Path p) = true
 is_carried_expr (expr.Block label stmts last) = is_none label && list_all is_carried_stmt stmts
 is_carried_expr (expr.Tuple es) = true
 is_carried_expr (expr.If c first other) = true
 is_carried_expr (expr.Match e arms) = not (is_empty arms)
 is_carried_expr (expr.Call f args) = true
-is_carried_expr expr.Other = false
+is_carried_expr (expr.Later later) = false
 
 abbrev pub is_ctor_path : RawPath → Bool
 is_ctor_path (path.Ctor v) = true
@@ -144,7 +130,7 @@ is_carried_pat (pat.Tuple ps) = true
 is_carried_pat (pat.TupleStruct v ps) = true
 is_carried_pat (pat.Path q) = is_ctor_path q
 is_carried_pat (pat.Lit e) = true
-is_carried_pat pat.Other = false
+is_carried_pat (pat.Later later) = false
 
 abbrev pub is_carried_mode : BindingAnnotation → Bool
 is_carried_mode mode.Unannotated = true

@@ -1,10 +1,11 @@
 -- A function has as many inputs as its body has parameters, `self` counted; what is written fits the
 -- parameters in scope; a struct or union has one variant; goals have as many arguments as their traits parameters.
 use Rattle.std.specs.Prelude.{ℕ, ◌+◌, ◌<◌, ◌≤◌, ◌≡◌, [], List, length, slice_get, Option, Some, None, IfSome}
-use Rattle.hir_facts.specs.Words.{BindingId, BodyId, TypeRefId, RawAdtKind, RawAdt, RawField, RawTraitRef, RawGoal, RawTrait, RawAlias, RawAssocType, RawImpl, RawVariant, RawFn, RawBody, RawFacts, arg_types, Mention, AllMentioned}
+use Rattle.hir_facts.specs.Words.{BindingId, BodyId, TypeRefId, RawAdtKind, RawAdt, RawField, RawTraitRef, RawGoal, RawTrait, RawAlias, RawAssocType, RawImpl, RawVariant, RawFn, RawBody, RawFacts, RawConst, arg_types, Mention, AllMentioned}
 use Rattle.hir_raw.specs.declared.raw.RawAdtKind.TheVariants as kind
 use Rattle.hir_raw.specs.declared.raw.RawGoal.TheVariants as goal
 use Rattle.hir_raw.specs.declared.mention.Mention.TheVariants as it
+use Rattle.hir_raw.specs.declared.later.RawConst.TheVariants as constant
 use Rattle.hir_facts.specs.Standing.{params_in, wrongs_in}
 
 abbrev pub count_of : Option BindingId → ℕ
@@ -22,12 +23,21 @@ CountsFit raw f =
 abbrev pub TypeFits : (bounds wrongs : ℕ → ℕ) → ℕ → TypeRefId → Type 0
 TypeFits bounds wrongs count w = (bounds w.0 ≤ count) × (wrongs w.0 ≡ 0)
 
--- a type that is mentioned fits
+-- a const names no parameter: no item with a const parameter is carried yet
+abbrev pub ConstFits : RawConst → Type 0
+ConstFits (constant.Value n) = Unit {0}
+ConstFits (constant.Param n) = ⊥
+ConstFits constant.Unknown = Unit {0}
+ConstFits constant.Hole = Unit {0}
+
+-- what is mentioned fits: a type, or a const
 abbrev pub MentionFits : (bounds wrongs : ℕ → ℕ) → ℕ → Mention → Type 0
 MentionFits bounds wrongs count (it.Type t) = TypeFits bounds wrongs count t
+MentionFits bounds wrongs count (it.ConstParam n) = ⊥
+MentionFits bounds wrongs count (it.Const c) = ConstFits c
 MentionFits bounds wrongs count _ = Unit {0}
 
--- each type that is written in the body fits
+-- each type and const that is written in the body fits
 abbrev pub BodyFits : (bounds wrongs : ℕ → ℕ) → ℕ → RawBody → Type 0
 BodyFits bounds wrongs count body = AllMentioned (λ n m. MentionFits bounds wrongs count m) body
 

@@ -109,6 +109,14 @@ Exists raw b (it.Local v) = v.0 < length b.bindings
 Exists raw b (it.Binds v) = v.0 < length b.bindings
 Exists raw b (it.Function f) = IsModuleFn raw f
 Exists raw b (it.Variant v) = v.0 < length raw.variants
+Exists raw b (it.ConstItem c) = c.0 < length raw.consts
+Exists raw b (it.Static s) = s.0 < length raw.statics
+Exists raw b (it.Trait t) = t.0 < length raw.traits
+-- no body stands in an impl yet
+Exists raw b (it.SelfOf i) = ⊥
+-- of const parameters the law on counts speaks
+Exists raw b (it.ConstParam n) = Unit {0}
+Exists raw b (it.Const c) = Unit {0}
 Exists raw b (it.Label role l) = l.0 < b.labels
 Exists raw b (it.List n) = Unit {0}
 

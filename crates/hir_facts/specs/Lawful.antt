@@ -6,7 +6,7 @@ use Rattle.hir_facts.specs.declared.laws.Law.TheVariants as law
 use Rattle.hir_facts.specs.declared.laws.FactsList.{FactsList}
 use Rattle.hir_facts.specs.declared.laws.FactsList.TheVariants as list
 use Rattle.hir_facts.specs.Entries.{AllHold, BreaksAt}
-use Rattle.hir_facts.specs.Carried.{is_carried_written_type, is_carried_adt, is_carried_trait, is_carried_alias, is_carried_impl, is_carried_lang, is_carried_fn, is_carried_body}
+use Rattle.hir_facts.specs.Carried.{is_carried_written_type, is_carried_adt, is_carried_trait, is_carried_alias, is_carried_impl, is_carried_lang, is_carried_fn}
 use Rattle.hir_facts.specs.Projections.{VariantIsCarried}
 use Rattle.hir_facts.specs.GoalIds.{TraitIdsExist, AliasIdsExist, ImplIdsExist, LangExists}
 use Rattle.hir_facts.specs.Ids.{TypeIdsExist, ParentBefore, AdtIdsExist, VariantIdsExist, FnIdsExist, BodyIdsExist}
@@ -32,6 +32,7 @@ none_carried i x = ⊥
 abbrev all_hold : {A : Type 0} → ℕ → A → Type 0
 all_hold i x = Unit {0}
 
+-- of bodies it speaks where one is asked for
 abbrev carried_at : Saying → RawFacts → FactsList → Type 0
 carried_at S raw list.Types = S _ (λ i t. IsTrue (is_carried_written_type t)) raw.types
 carried_at S raw list.Modules = S _ all_hold raw.modules
@@ -45,7 +46,7 @@ carried_at S raw list.Aliases = S _ (λ i a. IsTrue (is_carried_alias a)) raw.al
 carried_at S raw list.Impls = S _ (λ i p. IsTrue (is_carried_impl p)) raw.impls
 carried_at S raw list.Opaques = S _ none_carried raw.opaques
 carried_at S raw list.Lang = S _ (λ i l. IsTrue (is_carried_lang l)) raw.lang
-carried_at S raw list.Bodies = S _ (λ i b. IsTrue (is_carried_body b)) raw.bodies
+carried_at S raw list.Bodies = S _ all_hold raw.bodies
 carried_at S raw list.Limits = S _ all_hold (limits_of raw)
 
 abbrev ids_at : Saying → RawFacts → FactsList → Type 0
@@ -124,11 +125,8 @@ abstract_tests =
     test law.Carried list.Traits ∷ test law.Carried list.Aliases ∷ test law.Carried list.Impls
     ∷ test law.Carried list.Opaques ∷ test law.Carried list.Lang ∷ []
 
-abbrev pub body_tests : List Test
-body_tests = test law.Carried list.Bodies ∷ []
-
 abbrev pub carried_tests : List Test
-carried_tests = item_tests ++ (unread_tests ++ (abstract_tests ++ body_tests))
+carried_tests = item_tests ++ (unread_tests ++ abstract_tests)
 
 abbrev pub ids_tests : List Test
 ids_tests =

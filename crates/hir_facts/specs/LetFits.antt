@@ -46,7 +46,8 @@ written_fit raw law count i h =
 pub masked_fit : (raw : RawFacts) → IsLawful raw → (count : ℕ) → AllFit raw count (masked raw.types) (FitsThere raw count)
 masked_fit raw law count i h = (let x = type_there raw.types i h.within in by x.0 x.1 (is_alias x.0) refl)
   where
-    by : (x : RawType) → slice_get raw.types i ≡ Some x → (b : Bool) → is_alias x ≡ b → FitsHere raw count (masked raw.types) (FitsThere raw count) i
+    by : (x : RawType) → slice_get raw.types i ≡ Some x → (b : Bool) → is_alias x ≡ b
+        → FitsHere raw count (masked raw.types) (FitsThere raw count) i
     by x at true is = record {
       written = type.Hole;
       is = alias_is_hole raw.types i x at is;

@@ -1,13 +1,12 @@
 -- Plain types, adts, functions and bodies: those of structs, enums, tuples and the types that have no parts.
 use Rattle.std.specs.Prelude.{◌≡◌, ◌<◌, ℕ, Bool, true, false, ◌&&◌, List, [], map, length, slice_get, Option, Some, None, flat_map, IsTrue, IsSomeAnd, is_none, not, if◌then◌else◌}
 use Rattle.std.specs.List.{list_all, list_any}
-use Rattle.hir_facts.specs.Words.{TypeRefId, VariantId, FunctionId, ExprId, ExprOrPatId, DefWithBodyId, RawType, RawAdtKind, RawAdt, RawCtor, RawVariant, RawFn, RawLiteral, RawPath, RawStmt, RawExpr, RawPat, BindingAnnotation, RawBinding, RawBody, RawFacts, type_parts, adt_params, has_params, params_of, Role, callee, Part, Node, IsNode, part_at}
+use Rattle.hir_facts.specs.Words.{TypeRefId, VariantId, FunctionId, ExprId, ExprOrPatId, DefWithBodyId, RawType, RawAdtKind, RawAdt, RawCtor, RawVariant, RawFn, RawPath, RawStmt, RawExpr, RawPat, BindingAnnotation, RawBinding, RawBody, RawFacts, type_parts, adt_params, has_params, params_of, Role, callee, Part, Node, IsNode, part_at}
 use Rattle.hir_types.specs.declared.ids.ExprOrPatId.TheVariants as node
 use Rattle.hir_types.specs.declared.ids.DefWithBodyId.TheVariants as def
 use Rattle.hir_raw.specs.declared.raw.RawType.TheVariants as type
 use Rattle.hir_raw.specs.declared.raw.RawAdtKind.TheVariants as kind
 use Rattle.hir_raw.specs.declared.raw.RawCtor.TheVariants as ctor
-use Rattle.hir_raw.specs.declared.raw.RawLiteral.TheVariants as literal
 use Rattle.hir_raw.specs.declared.raw.RawPath.TheVariants as path
 use Rattle.hir_raw.specs.declared.raw.RawStmt.TheVariants as stmt
 use Rattle.hir_raw.specs.declared.raw.RawExpr.TheVariants as expr
@@ -135,7 +134,6 @@ abbrev pub is_item_path : RawFacts → RawPath → Bool
 is_item_path raw (path.Local v) = false
 is_item_path raw (path.Function f) = true
 is_item_path raw (path.Ctor v) = is_tuple_variant (slice_get raw.variants v.0)
-is_item_path raw path.Other = false
 
 abbrev pub is_item : RawFacts → Option RawExpr → Bool
 is_item raw (Some (expr.Path p)) = is_item_path raw p
@@ -159,13 +157,6 @@ stands_right raw b p = stands_by raw b p.role p.node
 
 -- ---- expressions
 
--- a truth value, a character, or an integer with a suffix or without
-abbrev pub is_plain_literal : RawLiteral → Bool
-is_plain_literal (literal.Bool b) = true
-is_plain_literal (literal.Char c) = true
-is_plain_literal (literal.Int digits suffix) = true
-is_plain_literal literal.Other = false
-
 -- it is written `V` or `V(..)`
 abbrev pub is_unit_or_tuple : RawCtor → Bool
 is_unit_or_tuple ctor.Unit = true
@@ -177,7 +168,6 @@ abbrev pub IsPlainPath : RawFacts → RawPath → Type 0
 IsPlainPath raw (path.Local v) = Unit {0}
 IsPlainPath raw (path.Function f) = IsPlainFn raw f
 IsPlainPath raw (path.Ctor v) = IsPlainCtor raw is_unit_or_tuple v
-IsPlainPath raw path.Other = ⊥
 
 abbrev pub IsPlainWritten : RawFacts → ℕ → Option TypeRefId → Type 0
 IsPlainWritten raw n None = Unit {0}
@@ -193,14 +183,14 @@ ArePlainStmts raw n stmts = AllHold (λ k s. IsPlainStmt raw n s) stmts
 
 -- apart from its parts, in a body with n parameters; a block has no label, and a `match` has an arm
 abbrev pub IsPlainExpr : RawFacts → ℕ → RawExpr → Type 0
-IsPlainExpr raw n (expr.Lit l) = IsTrue (is_plain_literal l)
+IsPlainExpr raw n (expr.Lit l) = Unit {0}
 IsPlainExpr raw n (expr.Path p) = IsPlainPath raw p
 IsPlainExpr raw n (expr.Block label stmts last) = IsTrue (is_none label) × ArePlainStmts raw n stmts
 IsPlainExpr raw n (expr.Tuple es) = Unit {0}
 IsPlainExpr raw n (expr.If c first other) = Unit {0}
 IsPlainExpr raw n (expr.Match e arms) = IsTrue (not (is_empty arms))
 IsPlainExpr raw n (expr.Call f args) = Unit {0}
-IsPlainExpr raw n expr.Other = ⊥
+IsPlainExpr raw n (expr.Later later) = ⊥
 
 -- ---- patterns
 
@@ -228,7 +218,7 @@ IsPlainPat raw b (pat.Tuple ps) = Unit {0}
 IsPlainPat raw b (pat.TupleStruct v ps) = IsPlainCtor raw is_tuple_ctor v
 IsPlainPat raw b (pat.Path q) = IsPlainPathPat raw q
 IsPlainPat raw b (pat.Lit e) = Unit {0}
-IsPlainPat raw b pat.Other = ⊥
+IsPlainPat raw b (pat.Later later) = ⊥
 
 -- ---- bodies
 

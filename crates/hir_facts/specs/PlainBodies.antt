@@ -34,7 +34,7 @@ has_callees raw b (expr.Tuple es) = list_all (is_value raw b) es
 has_callees raw b (expr.If c first other) = is_value raw b c && (is_value raw b first && is_maybe_value raw b other)
 has_callees raw b (expr.Match e arms) = is_value raw b e && list_all (arm_has_values raw b) arms
 has_callees raw b (expr.Call f args) = is_item_at raw b f && list_all (is_value raw b) args
-has_callees raw b expr.Other = true
+has_callees raw b (expr.Later later) = true
 
 -- ---- written types
 

@@ -1,4 +1,5 @@
--- Where projections may stand: in goals, impls and other projections, in what a function or a constructor takes or gives, and in the types of `let`s.
+-- Where projections may stand: in goals, impls and other projections, in what a function or a constructor takes or gives, and in the types
+-- of `let`s.
 -- Fields that a variant `V` lists hold none.
 use Rattle.std.specs.Prelude.{ℕ, ◌≡◌, ◌<◌, List, slice_get, Some, IsTrue}
 use Rattle.hir_facts.specs.Words.{TypeRefId, RawType, RawField, RawVariant, RawFn, RawFacts, is_alias, type_parts}
@@ -8,7 +9,8 @@ use Rattle.hir_facts.specs.Carried.{is_carried_variant}
 -- a projection stands in type t: it is one, or a type before it that it is made of holds one
 pub data HoldsProjection (types : List RawType) : ℕ → Type 0 where
   is_one : (t : ℕ) (x : RawType) → slice_get types t ≡ Some x → IsTrue (is_alias x) → HoldsProjection types t
-  in_part : (t : ℕ) (x : RawType) (k : ℕ) (u : TypeRefId) → slice_get types t ≡ Some x → slice_get (type_parts x) k ≡ Some u → u.0 < t → HoldsProjection types u.0 → HoldsProjection types t
+  in_part : (t : ℕ) (x : RawType) (k : ℕ) (u : TypeRefId) → slice_get types t ≡ Some x → slice_get (type_parts x) k ≡ Some u → u.0 < t
+      → HoldsProjection types u.0 → HoldsProjection types t
 
 -- none stands in type i
 abbrev pub IsNoProjection : RawFacts → ℕ → Type 0

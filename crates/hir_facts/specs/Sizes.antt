@@ -76,5 +76,6 @@ pub record BodyIsSmall (i : ℕ) (b : RawBody) : Type 0 where
   pub exprs : IsShort b.exprs
   pub pats : IsShort b.pats
   pub bindings : IsShort b.bindings
+  pub labels : b.labels ≤ 2 ^ 20
   pub lists : AllMentioned (λ n m. ListIsShort m) b
   pub low : IsLow 256 b

@@ -1,8 +1,9 @@
 //! Lawful facts.
 ghost use Rattle.std.specs.Prelude.{◌≡◌, ◌↔◌, ◌<◌, ℕ, IsTrue, Some, slice_get, length};
 ghost use Rattle.hir_facts.specs.Words.{RawBody, AreDepths, fits};
-ghost use Rattle.hir_facts.specs.Own.{IsWalkable, HasBody, body_id_of, inputs_of, FitsThere, IsLawful, AreSchedules, ArePlainMarks, IsPlainAdt, IsPlainOver, IsPlainFn, edition_year, limits_in_order};
+ghost use Rattle.hir_facts.specs.Own.{is_carried_body, IsWalkable, HasBody, HasCarriedBody, body_id_of, inputs_of, FitsThere, IsLawful, AreSchedules, ArePlainMarks, IsPlainAdt, IsPlainOver, IsPlainFn, edition_year, limits_in_order};
 
+use crate::carried_body::is_carried_body;
 use crate::plain_marks::{PlainMarks, mark_at};
 use hir_raw::{
     Edition, RawAdt, RawAlias, RawBody, RawFacts, RawFn, RawImpl, RawTrait, RawType, RawVariant,
@@ -194,10 +195,10 @@ impl Facts {
         &bodies[body.0 as usize]
     }
 
-    /// The numbers of a body in the order of the walk.
+    /// The numbers of a body in the order of the walk, which goes over bodies that are carried.
     pub fn schedule(&self, body: BodyId) -> &Schedule
         requires { body.0 < length self.now.bodies }
-        ensures walkable { (b : RawBody) → slice_get self.now.bodies body.0 ≡ Some b → IsWalkable b result.now }
+        ensures walkable { (b : RawBody) → slice_get self.now.bodies body.0 ≡ Some b → IsTrue (is_carried_body b) → IsWalkable b result.now }
         ensures depths { (b : RawBody) → slice_get self.now.bodies body.0 ≡ Some b → AreDepths b result.now }
     {
         let schedules = self.schedules.as_slice();
@@ -259,6 +260,17 @@ impl Facts {
         ensures { IsTrue result ↔ HasBody self.now def }
     {
         self.body_id(def).is_some()
+    }
+
+    /// Whether a definition is in range and has a body that inference carries.
+    pub fn has_carried_body(&self, def: DefWithBodyId) -> bool
+        ensures { IsTrue result ↔ HasCarriedBody self.now def }
+    {
+        self.lawful();
+        match self.body_id(def) {
+            None => false,
+            Some(body) => is_carried_body(self.body(body)),
+        }
     }
 
     /// Whether each id and parameter in a type is in range, under the parameters of an item, and

@@ -1,6 +1,7 @@
 //! The facts of a resolved crate: the laws that they obey, and what inference reads of them.
 #![tactic(auto)]
 
+mod carried_body;
 mod facts;
 mod laws;
 mod lower;
@@ -8,24 +9,111 @@ mod plain_body;
 mod plain_marks;
 mod sized;
 
+pub use carried_body::is_carried_binding;
+pub use carried_body::is_carried_body;
+pub use carried_body::is_carried_expr;
+pub use carried_body::is_carried_pat;
 pub use facts::Facts;
-pub use hir_raw;
-pub use hir_raw::{
-    BindingAnnotation, Edition, Other, RawAdt, RawAdtKind, RawAlias, RawArgs, RawArm, RawAssocType,
-    RawAt, RawBinding, RawBody, RawCtor, RawExpr, RawFacts, RawField, RawFn, RawGoal, RawImpl,
-    RawLang, RawLimits, RawLiteral, RawParam, RawPat, RawPath, RawStmt, RawTrait, RawTraitRef,
-    RawType, RawVariant, RawVis, Schedule, fn_aliases, fn_arity, let_aliases, variant_aliases,
-    variant_arity,
-};
-pub use hir_types::{
-    AdtId, AliasBound, BindingId, BodyId, Boxed, CallableDefId, Canonical, ClosureId, Const,
-    ConstId, DefWithBodyId, ExprId, ExprOrPatId, FloatTy, Folded, FunctionId, GenericArg,
-    GenericDefId, Goal, HoleKind, ImplId, IntTy, IntegerTy, LabelId, List, ModuleId, Mutability,
-    OpaqueId, PatId, Region, Safety, StaticId, Subst, Text, TraitId, TraitRef, Ty, TypeAliasId,
-    TypeRefId, UintTy, VariantId, instantiate,
-};
-pub use laws::{FactsList, Law};
-pub use lower::{lower_opened, lower_ty, return_ty};
+pub use hir_raw::ArithOp;
+pub use hir_raw::BinaryOp;
+pub use hir_raw::BindingAnnotation;
+pub use hir_raw::CmpOp;
+pub use hir_raw::Edition;
+pub use hir_raw::LaterExpr;
+pub use hir_raw::LaterLiteral;
+pub use hir_raw::LaterPat;
+pub use hir_raw::LaterPath;
+pub use hir_raw::LogicOp;
+pub use hir_raw::Other;
+pub use hir_raw::RawAdt;
+pub use hir_raw::RawAdtKind;
+pub use hir_raw::RawAlias;
+pub use hir_raw::RawArg;
+pub use hir_raw::RawArgs;
+pub use hir_raw::RawArm;
+pub use hir_raw::RawAssocType;
+pub use hir_raw::RawAt;
+pub use hir_raw::RawBinding;
+pub use hir_raw::RawBody;
+pub use hir_raw::RawClosureParam;
+pub use hir_raw::RawConst;
+pub use hir_raw::RawCtor;
+pub use hir_raw::RawExpr;
+pub use hir_raw::RawFacts;
+pub use hir_raw::RawField;
+pub use hir_raw::RawFn;
+pub use hir_raw::RawGoal;
+pub use hir_raw::RawImpl;
+pub use hir_raw::RawLang;
+pub use hir_raw::RawLimits;
+pub use hir_raw::RawLiteral;
+pub use hir_raw::RawParam;
+pub use hir_raw::RawPat;
+pub use hir_raw::RawPath;
+pub use hir_raw::RawRecordField;
+pub use hir_raw::RawRecordFieldPat;
+pub use hir_raw::RawStmt;
+pub use hir_raw::RawTrait;
+pub use hir_raw::RawTraitRef;
+pub use hir_raw::RawType;
+pub use hir_raw::RawVariant;
+pub use hir_raw::RawVariantPath;
+pub use hir_raw::RawVis;
+pub use hir_raw::Schedule;
+pub use hir_raw::UnaryOp;
+pub use hir_raw::fn_aliases;
+pub use hir_raw::fn_arity;
+pub use hir_raw::let_aliases;
+pub use hir_raw::variant_aliases;
+pub use hir_raw::variant_arity;
+pub use hir_types::AdtId;
+pub use hir_types::AliasBound;
+pub use hir_types::BindingId;
+pub use hir_types::BodyId;
+pub use hir_types::Boxed;
+pub use hir_types::CallableDefId;
+pub use hir_types::Canonical;
+pub use hir_types::ClosureId;
+pub use hir_types::Const;
+pub use hir_types::ConstId;
+pub use hir_types::DefWithBodyId;
+pub use hir_types::ExprId;
+pub use hir_types::ExprOrPatId;
+pub use hir_types::FloatTy;
+pub use hir_types::Folded;
+pub use hir_types::FunctionId;
+pub use hir_types::GenericArg;
+pub use hir_types::GenericDefId;
+pub use hir_types::Goal;
+pub use hir_types::HoleKind;
+pub use hir_types::ImplId;
+pub use hir_types::IntTy;
+pub use hir_types::IntegerTy;
+pub use hir_types::LabelId;
+pub use hir_types::List;
+pub use hir_types::ModuleId;
+pub use hir_types::Mutability;
+pub use hir_types::OpaqueId;
+pub use hir_types::PatId;
+pub use hir_types::Region;
+pub use hir_types::Safety;
+pub use hir_types::StaticId;
+pub use hir_types::Subst;
+pub use hir_types::Text;
+pub use hir_types::TraitId;
+pub use hir_types::TraitRef;
+pub use hir_types::Ty;
+pub use hir_types::TypeAliasId;
+pub use hir_types::TypeRefId;
+pub use hir_types::UintTy;
+pub use hir_types::VariantId;
+pub use hir_types::instantiate;
+pub use laws::FactsList;
+pub use laws::Law;
+pub use lower::lower_opened;
+pub use lower::lower_ty;
+pub use lower::return_ty;
 pub use plain_body::is_plain;
-pub use plain_marks::{PlainMarks, mark_at};
+pub use plain_marks::PlainMarks;
+pub use plain_marks::mark_at;
 pub use sized::are_sized_preds;

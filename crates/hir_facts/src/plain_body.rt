@@ -3,13 +3,12 @@ ghost use Rattle.std.specs.Prelude.{◌≡◌, ◌↔◌, ℕ, Some, slice_get, 
 ghost use Rattle.std.specs.List.{list_all};
 ghost use Rattle.hir_facts.specs.Words.{FunctionId, params_of};
 ghost use Rattle.hir_types.specs.declared.ids.DefWithBodyId.TheVariants.{FunctionId as fn_def};
-ghost use Rattle.hir_facts.specs.Own.{body_of, AllHold, is_unit_ctor, is_tuple_ctor, is_unit_or_tuple, IsPlainCtor, is_item_path, is_item, is_item_at, is_plain_literal, IsPlainPath, IsPlainWritten, IsPlainStmt, ArePlainStmts, IsPlainExpr, is_plain_mode, is_plain_binding, IsPlainPathPat, IsPlainPat, IsPlainBody, HasSizedParams, HasPlainBody, IsPlainBodyOf, is_value, is_maybe_value, stmt_has_values, arm_has_values, has_callees, WrittenFits, LetFits, LetsFit, LooksPlain};
+ghost use Rattle.hir_facts.specs.Own.{body_of, AllHold, is_unit_ctor, is_tuple_ctor, is_unit_or_tuple, IsPlainCtor, is_item_path, is_item, is_item_at, IsPlainPath, IsPlainWritten, IsPlainStmt, ArePlainStmts, IsPlainExpr, is_plain_mode, is_plain_binding, IsPlainPathPat, IsPlainPat, IsPlainBody, HasSizedParams, HasPlainBody, IsPlainBodyOf, is_value, is_maybe_value, stmt_has_values, arm_has_values, has_callees, WrittenFits, LetFits, LetsFit, LooksPlain};
 
 use crate::facts::Facts;
 use crate::sized::has_sized_params;
 use hir_raw::{
-    BindingAnnotation, RawArm, RawBody, RawCtor, RawExpr, RawFacts, RawLiteral, RawPat, RawPath,
-    RawStmt,
+    BindingAnnotation, RawArm, RawBody, RawCtor, RawExpr, RawFacts, RawPat, RawPath, RawStmt,
 };
 use hir_types::{BindingId, DefWithBodyId, ExprId, FunctionId, TypeRefId, VariantId};
 
@@ -70,15 +69,6 @@ fn is_plain_ctor(facts: &Facts, variant: VariantId) -> bool
     }
 }
 
-fn is_plain_literal(literal: &RawLiteral) -> bool
-    ensures { result ≡ is_plain_literal literal.now }
-{
-    match literal {
-        RawLiteral::Bool(_) | RawLiteral::Char(_) | RawLiteral::Int { .. } => true,
-        RawLiteral::Other => false,
-    }
-}
-
 fn is_plain_path(facts: &Facts, path: &RawPath) -> bool
     ensures { IsTrue result ↔ IsPlainPath facts.now path.now }
 {
@@ -86,7 +76,6 @@ fn is_plain_path(facts: &Facts, path: &RawPath) -> bool
         RawPath::Local(_) => true,
         RawPath::Function(function) => facts.is_plain_fn(*function),
         RawPath::Ctor(variant) => is_plain_ctor(facts, *variant),
-        RawPath::Other => false,
     }
 }
 
@@ -135,7 +124,7 @@ fn is_plain_expr(facts: &Facts, expr: &RawExpr) -> bool
     ensures { IsTrue result ↔ IsPlainExpr facts.now count expr.now }
 {
     match expr {
-        RawExpr::Lit(literal) => is_plain_literal(literal),
+        RawExpr::Lit(_) => true,
         RawExpr::Path(path) => is_plain_path(facts, path),
         RawExpr::Block {
             label,
@@ -144,7 +133,7 @@ fn is_plain_expr(facts: &Facts, expr: &RawExpr) -> bool
         } => label.is_none() && are_plain_stmts(facts, statements.as_slice()),
         RawExpr::Tuple(_) | RawExpr::If { .. } | RawExpr::Call { .. } => true,
         RawExpr::Match { scrutinee: _, arms } => !arms.is_empty(),
-        RawExpr::Other => false,
+        RawExpr::Later(_) => false,
     }
 }
 
@@ -184,7 +173,7 @@ fn is_plain_path_pat(facts: &Facts, path: &RawPath) -> bool
 {
     match path {
         RawPath::Ctor(variant) => is_plain_unit(facts, *variant),
-        RawPath::Local(_) | RawPath::Function(_) | RawPath::Other => false,
+        RawPath::Local(_) | RawPath::Function(_) => false,
     }
 }
 
@@ -196,7 +185,7 @@ fn is_plain_pat(facts: &Facts, body: &RawBody, pat: &RawPat) -> bool
         RawPat::Bind { id, subpat } => subpat.is_none() && is_plain_binding(body, *id),
         RawPat::TupleStruct { variant, args: _ } => is_plain_tuple(facts, *variant),
         RawPat::Path(path) => is_plain_path_pat(facts, path),
-        RawPat::Other => false,
+        RawPat::Later(_) => false,
     }
 }
 
@@ -215,7 +204,7 @@ fn is_item_path(raw: &RawFacts, path: &RawPath) -> bool
             None => false,
             Some(variant) => is_tuple(variant.ctor),
         },
-        RawPath::Local(_) | RawPath::Other => false,
+        RawPath::Local(_) => false,
     }
 }
 
@@ -295,7 +284,7 @@ fn has_callees(raw: &RawFacts, body: &RawBody, expr: &RawExpr) -> bool
     ensures { result ≡ has_callees raw.now body.now expr.now }
 {
     match expr {
-        RawExpr::Lit(_) | RawExpr::Path(_) | RawExpr::Other => true,
+        RawExpr::Lit(_) | RawExpr::Path(_) | RawExpr::Later(_) => true,
         RawExpr::Block {
             label: _,
             statements,

@@ -22,9 +22,9 @@ in_parts b ps each k x at = by (slice_get ps k) refl (sym (slice_get-map (λ (q 
     by None is h = cc
     by (Some p) is h = (let same : p.node ≡ x = cc in subst (IsInBody b) same (each k p is))
 
-of_expr : (b : RawBody) (o : Option RawExpr) → ((x : RawExpr) → o ≡ Some x → AllInBody b (nodes (expr_parts x))) → (k : ℕ) (p : Part) → slice_get (parts_of_expr o) k ≡ Some p → IsInBody b p.node
+of_expr : (b : RawBody) (o : Option RawExpr) → ((x : RawExpr) → o ≡ Some x → AllInBody b (nodes (expr_parts b x))) → (k : ℕ) (p : Part) → slice_get (parts_of_expr b o) k ≡ Some p → IsInBody b p.node
 of_expr b None h k p at = cc
-of_expr b (Some x) h k p at = part_in b (expr_parts x) (h x refl) k p at
+of_expr b (Some x) h k p at = part_in b (expr_parts b x) (h x refl) k p at
 
 of_pat : (b : RawBody) (o : Option RawPat) → ((x : RawPat) → o ≡ Some x → AllInBody b (nodes (pat_parts x))) → (k : ℕ) (p : Part) → slice_get (parts_of_pat o) k ≡ Some p → IsInBody b p.node
 of_pat b None h k p at = cc
@@ -35,9 +35,9 @@ parts_fit raw b h the_body k p inside at = part_in b (body_parts b) h.own k p at
 parts_fit raw b h (inner (node.ExprId e)) k p inside at = of_expr b (slice_get b.exprs e.0) (λ x found. h.exprs e.0 x found) k p at
 parts_fit raw b h (inner (node.PatId q)) k p inside at = of_pat b (slice_get b.pats q.0) (λ x found. h.pats q.0 x found) k p at
 
-expr_parts_in : (b : RawBody) → PartsFit b → AllHold (λ e x. AllInBody b (nodes (expr_parts x))) b.exprs
-expr_parts_in b fit e x found = in_parts b (expr_parts x) (λ k p at.
-    fit (inner (node.ExprId (record { 0 = e }))) k p (slice_get_within b.exprs e x found) (ap (λ (o : Option RawExpr). slice_get (parts_of_expr o) k) found ∙ at))
+expr_parts_in : (b : RawBody) → PartsFit b → AllHold (λ e x. AllInBody b (nodes (expr_parts b x))) b.exprs
+expr_parts_in b fit e x found = in_parts b (expr_parts b x) (λ k p at.
+    fit (inner (node.ExprId (record { 0 = e }))) k p (slice_get_within b.exprs e x found) (ap (λ (o : Option RawExpr). slice_get (parts_of_expr b o) k) found ∙ at))
 
 pat_parts_in : (b : RawBody) → PartsFit b → AllHold (λ q x. AllInBody b (nodes (pat_parts x))) b.pats
 pat_parts_in b fit q x found = in_parts b (pat_parts x) (λ k p at.

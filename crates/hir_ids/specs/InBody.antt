@@ -1,6 +1,6 @@
 -- The ids of a body, list by list, and which definitions each body is that of.
 use Rattle.std.specs.Prelude.{ℕ, ◌<◌, ◌≡◌, List, length, slice_get, Some}
-use Rattle.hir_ids.specs.Words.{TraitId, RawBody, RawFacts, expr_parts, pat_parts, body_parts, body_said, nodes, AllInBody, AllHold, Exists, owned_bodies, listed_variants}
+use Rattle.hir_ids.specs.Words.{TraitId, RawBody, RawFacts, expr_parts, pat_parts, body_parts, nodes, body_said, AllInBody, AllHold, Exists, owned_bodies, listed_variants}
 use Rattle.hir_ids.specs.declared.namers.Namers.{Namers}
 use Rattle.hir_ids.specs.Namers.{AreNamers}
 
@@ -8,7 +8,7 @@ use Rattle.hir_ids.specs.Namers.{AreNamers}
 pub record BodyIdsHere (raw : RawFacts) (b : RawBody) : Type 0 where
   pub module_ : b.module.0 < length raw.modules
   pub traits : (k : ℕ) (t : TraitId) → slice_get b.traits k ≡ Some t → t.0 < length raw.traits
-  pub exprs : AllHold (λ e x. AllInBody b (nodes (expr_parts x))) b.exprs
+  pub exprs : AllHold (λ e x. AllInBody b (nodes (expr_parts b x))) b.exprs
   pub pats : AllHold (λ p x. AllInBody b (nodes (pat_parts x))) b.pats
   pub own : AllInBody b (nodes (body_parts b))
   pub named : AllHold (λ k s. Exists raw b s.mention) (body_said b)

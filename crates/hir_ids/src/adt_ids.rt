@@ -7,7 +7,7 @@ use crate::goal_ids::have_goal_ids;
 use crate::ids::has_vis;
 use crate::namers::{Namers, is_one, namers_of};
 use crate::test::Test;
-use hir_facts::hir_raw::{RawAdt, RawFacts, RawField, RawVariant};
+use hir_raw::{RawAdt, RawFacts, RawField, RawVariant};
 use hir_types::VariantId;
 use std::alloc::{AllocError, Global};
 

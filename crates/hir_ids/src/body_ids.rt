@@ -1,14 +1,12 @@
 //! The ids of a body are in range.
 ghost use Rattle.std.specs.Prelude.{◌≡◌, ◌↔◌, ◌<◌, ◌++◌, ℕ, Some, slice_get, map, IsTrue, IfOk, OnOk};
-ghost use Rattle.hir_ids.specs.Words.{TraitId, IsInBody, expr_parts, pat_parts, body_parts, binding_of, body_said, nodes, AllInBody, AllHold, IsInModule, IsModuleFn, Exists, owned_body, variant_body, owned_bodies, BodyIdsExist};
+ghost use Rattle.hir_ids.specs.Words.{TraitId, IsInBody, expr_parts, pat_parts, body_parts, nodes, binding_of, body_said, AllInBody, AllHold, IsInModule, IsModuleFn, Exists, owned_body, variant_body, owned_bodies, BodyIdsExist};
 ghost use Rattle.hir_ids.specs.Own.{BodyIdsHere, AreOwners};
 
 use crate::namers::{Namers, is_one, namers_of};
 use crate::saying::said_of_body;
 use crate::test::Test;
-use hir_facts::hir_raw::{
-    Mention, RawAt, RawBody, RawExpr, RawFacts, RawFn, RawPat, RawVariant, Said,
-};
+use hir_raw::{Mention, RawAt, RawBody, RawExpr, RawFacts, RawFn, RawPat, RawVariant, Said};
 use hir_schedule::{nodes_of_body, nodes_of_expr, nodes_of_pat};
 use hir_types::{BindingId, ExprOrPatId, FunctionId, TraitId};
 use std::alloc::{AllocError, Global};
@@ -39,6 +37,11 @@ fn exists(raw: &RawFacts, body: &RawBody, mention: Mention) -> bool
         Mention::Local(v) | Mention::Binds(v) => (v.0 as usize) < body.bindings.len(),
         Mention::Function(function) => is_module_fn(raw, function),
         Mention::Variant(variant) => (variant.0 as usize) < raw.variants.len(),
+        Mention::ConstItem(item) => (item.0 as usize) < raw.consts.len(),
+        Mention::Static(item) => (item.0 as usize) < raw.statics.len(),
+        Mention::Trait(item) => (item.0 as usize) < raw.traits.len(),
+        Mention::SelfOf(_) => false,
+        Mention::ConstParam(_) | Mention::Const(_) => true,
         Mention::Label(_, label) => label.0 < body.labels,
         Mention::List(_) => true,
     }
@@ -76,10 +79,10 @@ fn are_in_body(body: &RawBody, nodes: &[ExprOrPatId]) -> bool
 fn have_expr_parts(alloc: Global, body: &RawBody, exprs: &[RawExpr]) -> Result<bool, AllocError>
     requires { exprs.now ≡ body.now.exprs }
     ensures { IfOk result (λ yes. IsTrue yes
-        ↔ AllHold (λ e x. AllInBody body.now (nodes (expr_parts x))) body.now.exprs) }
+        ↔ AllHold (λ e x. AllInBody body.now (nodes (expr_parts body.now x))) body.now.exprs) }
 {
     for expr in exprs {
-        let nodes = nodes_of_expr(alloc, expr)?;
+        let nodes = nodes_of_expr(alloc, body, expr)?;
         if !are_in_body(body, &nodes) {
             return Ok(false);
         }

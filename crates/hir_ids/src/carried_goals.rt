@@ -5,9 +5,7 @@ ghost use Rattle.hir_ids.specs.Words.{is_carried_args, is_carried_goal, is_carri
 
 use crate::carried::are_type_params;
 use crate::test::Test;
-use hir_facts::hir_raw::{
-    RawAlias, RawArgs, RawFacts, RawGoal, RawImpl, RawLang, RawTrait, RawTraitRef,
-};
+use hir_raw::{RawAlias, RawArgs, RawFacts, RawGoal, RawImpl, RawLang, RawTrait, RawTraitRef};
 use std::alloc::{AllocError, Global};
 
 fn carries_args(args: &RawArgs) -> bool

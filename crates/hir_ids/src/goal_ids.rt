@@ -6,9 +6,7 @@ ghost use Rattle.hir_ids.specs.Own.{AreAliasListers};
 use crate::ids::are_below;
 use crate::namers::{Namers, is_one, namers_of};
 use crate::test::Test;
-use hir_facts::hir_raw::{
-    RawAlias, RawAssocType, RawFacts, RawGoal, RawImpl, RawLang, RawTrait, RawTraitRef,
-};
+use hir_raw::{RawAlias, RawAssocType, RawFacts, RawGoal, RawImpl, RawLang, RawTrait, RawTraitRef};
 use hir_types::TypeAliasId;
 use std::alloc::{AllocError, Global};
 

@@ -4,7 +4,7 @@ ghost use Rattle.hir_ids.specs.Words.{TypeRefId, ChildrenBefore, ItemExists, Typ
 
 use crate::goal_ids::have_goal_ids;
 use crate::test::Test;
-use hir_facts::hir_raw::{RawAt, RawFacts, RawFn, RawType, RawVis};
+use hir_raw::{RawAt, RawFacts, RawFn, RawType, RawVis};
 use hir_types::{ModuleId, TypeRefId};
 use std::alloc::{AllocError, Global};
 

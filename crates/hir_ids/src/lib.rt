@@ -11,19 +11,16 @@ mod ids;
 mod namers;
 mod projections;
 mod saying;
+mod saying_later;
 mod test;
 
 pub use adt_ids::{AdtIds, VariantIds};
 pub use body_ids::{BodyIds, binding_of};
 pub use carried::{
-    AdtsCarried, BodiesCarried, FnsCarried, TypesCarried, VariantsCarried, are_type_params,
-    first_other,
+    AdtsCarried, FnsCarried, TypesCarried, VariantsCarried, are_type_params, first_other,
 };
 pub use carried_goals::{AliasesCarried, ImplsCarried, LangCarried, TraitsCarried, carries_goals};
 pub use goal_ids::{AliasIds, ImplIds, LangIds, TraitIds, have_goal_ids};
-pub use hir_facts;
-pub use hir_facts::hir_raw;
-pub use hir_schedule;
 pub use ids::{FnIds, ModuleIds, TypeIds};
 pub use namers::{Namers, is_nobody, is_one, namers_of};
 pub use projections::ProjectionMarks;

@@ -5,7 +5,7 @@ ghost use Rattle.hir_ids.specs.Words.{is_alias, type_parts, RawField, IsNoProjec
 ghost use Rattle.hir_ids.specs.Words.hir_raw.declared.raw.RawCtor.TheVariants as ctor;
 ghost use Rattle.hir_ids.specs.Own.{AreMarked};
 
-use hir_facts::hir_raw::{RawCtor, RawFacts, RawField, RawType, RawVariant};
+use hir_raw::{RawCtor, RawFacts, RawField, RawType, RawVariant};
 use hir_types::TypeRefId;
 use std::alloc::{AllocError, Global};
 

@@ -3,18 +3,23 @@ ghost use Rattle.std.specs.Prelude.{◌≡◌, ◌∷◌, ◌++◌, ◌+◌, ◌
 ghost use Rattle.hir_ids.specs.Words.hir_raw.declared.mention.Mention.TheVariants.{List as list_mention};
 ghost use Rattle.hir_ids.specs.Words.{label_here, type_here, bound_here, path_mentions, stmt_mentions, expr_mentions, pat_mentions, body_mentions, said, each, expr_said, pat_said, body_said};
 
-use hir_facts::hir_raw::{LabelRole, Mention, RawBody, RawExpr, RawPat, RawPath, RawStmt, Said};
+use crate::saying_later::{say_later, say_later_pat};
+use hir_raw::{LabelRole, Mention, RawBody, RawExpr, RawPat, RawPath, RawStmt, Said};
 use hir_types::{BindingId, LabelId, TypeRefId};
 use std::alloc::{AllocError, Global};
 
-fn say(out: &mut Vec<Said>, node: usize, mention: Mention) -> Result<(), AllocError>
+pub fn say(out: &mut Vec<Said>, node: usize, mention: Mention) -> Result<(), AllocError>
     ensures { OnOk result (out.new.items ≡ out.old.items ++ said node (mention ∷ [])) }
 {
     out.push(Said { node, mention })?;
     Ok(())
 }
 
-fn say_label(out: &mut Vec<Said>, node: usize, label: &Option<LabelId>) -> Result<(), AllocError>
+pub fn say_label(
+    out: &mut Vec<Said>,
+    node: usize,
+    label: &Option<LabelId>,
+) -> Result<(), AllocError>
     ensures { OnOk result (out.new.items ≡ out.old.items ++ said node (label_here label.now)) }
 {
     match label {
@@ -23,7 +28,11 @@ fn say_label(out: &mut Vec<Said>, node: usize, label: &Option<LabelId>) -> Resul
     }
 }
 
-fn say_type(out: &mut Vec<Said>, node: usize, written: &Option<TypeRefId>) -> Result<(), AllocError>
+pub fn say_type(
+    out: &mut Vec<Said>,
+    node: usize,
+    written: &Option<TypeRefId>,
+) -> Result<(), AllocError>
     ensures { OnOk result (out.new.items ≡ out.old.items ++ said node (type_here written.now)) }
 {
     match written {
@@ -41,7 +50,7 @@ fn say_bound(out: &mut Vec<Said>, node: usize, bound: &Option<BindingId>) -> Res
     }
 }
 
-fn say_list(out: &mut Vec<Said>, node: usize, count: usize) -> Result<(), AllocError>
+pub fn say_list(out: &mut Vec<Said>, node: usize, count: usize) -> Result<(), AllocError>
     ensures { OnOk result (out.new.items ≡ out.old.items ++ said node (list_mention count ∷ [])) }
 {
     say(out, node, Mention::List(count))
@@ -54,7 +63,6 @@ fn say_path(out: &mut Vec<Said>, node: usize, path: &RawPath) -> Result<(), Allo
         RawPath::Local(v) => say(out, node, Mention::Local(*v)),
         RawPath::Function(function) => say(out, node, Mention::Function(*function)),
         RawPath::Ctor(variant) => say(out, node, Mention::Variant(*variant)),
-        RawPath::Other => Ok(()),
     }
 }
 
@@ -67,7 +75,7 @@ fn say_stmt(out: &mut Vec<Said>, node: usize, stmt: &RawStmt) -> Result<(), Allo
     }
 }
 
-fn say_stmts(out: &mut Vec<Said>, node: usize, stmts: &[RawStmt]) -> Result<(), AllocError>
+pub fn say_stmts(out: &mut Vec<Said>, node: usize, stmts: &[RawStmt]) -> Result<(), AllocError>
     ensures { OnOk result (out.new.items ≡ out.old.items
         ++ said node (flat_map stmt_mentions stmts.now)) }
 {
@@ -96,7 +104,7 @@ fn say_expr(out: &mut Vec<Said>, node: usize, expr: &RawExpr) -> Result<(), Allo
         RawExpr::If { .. } => Ok(()),
         RawExpr::Match { scrutinee: _, arms } => say_list(out, node, arms.len()),
         RawExpr::Call { callee: _, args } => say_list(out, node, args.len()),
-        RawExpr::Other => Ok(()),
+        RawExpr::Later(expr) => say_later(out, node, expr),
     }
 }
 
@@ -113,7 +121,7 @@ fn say_pat(out: &mut Vec<Said>, node: usize, pat: &RawPat) -> Result<(), AllocEr
         }
         RawPat::Path(path) => say_path(out, node, path),
         RawPat::Lit(_) => Ok(()),
-        RawPat::Other => Ok(()),
+        RawPat::Later(pat) => say_later_pat(out, node, pat),
     }
 }
 

@@ -2,7 +2,7 @@
 ghost use Rattle.std.specs.Prelude.{◌≡◌, ◌↔◌, ℕ, List, IfOk, IsTrue, MatchOption, Some, slice_get};
 ghost use Rattle.hir_ids.specs.Words.{RawFacts, AllHold, BreaksAt};
 
-use hir_facts::hir_raw::RawFacts;
+use hir_raw::RawFacts;
 use std::alloc::{AllocError, Global};
 
 /// A test of a law at the entries of a list of the facts.

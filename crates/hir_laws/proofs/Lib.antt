@@ -1,10 +1,17 @@
 pub mod Allowed
+pub mod Alternatives
+pub mod Assigning
 pub mod Binding
 pub mod Digits
 pub mod FieldNames
 pub mod Firsts
+pub mod LabelPlaces
 pub mod LateLaws
+pub mod Nodes
+pub mod Parted
+pub mod PartedSoFar
 pub mod PatternLiterals
 pub mod Refusals
 pub mod Scoping
+pub mod Within
 pub mod Words

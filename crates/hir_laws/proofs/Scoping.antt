@@ -8,7 +8,7 @@ use Rattle.hir_laws.specs.Words.{BindingId, Mention, Said, RawBody, Schedule, Me
 use Rattle.hir_laws.specs.Words.hir_raw.declared.mention.Mention.TheVariants as it
 use Rattle.hir_laws.proofs.Words.{schedule_unique, mention_said, said_mention, mentions_within, mentions_tell}
 use Rattle.hir_laws.specs.Own.{binding_bound, IsBoundBelow, AreFirsts, ComesAfter, LocalsExist}
-use Rattle.hir_laws.proofs.Binding.{same_binding}
+use Rattle.hir_laws.proofs.Nodes.{same_binding}
 
 -- the numbers of the first n bodies
 pub record ScheduledSoFar (bodies : List RawBody) (n : ℕ) (schedules : List Schedule) : Type 0 where

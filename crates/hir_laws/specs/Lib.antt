@@ -1,4 +1,9 @@
 pub mod Binders
+pub mod Nodes
+pub mod Parted
+pub mod Places
+pub mod Targets
+pub mod Walked
 pub mod Firsts
 pub mod InBits
 pub mod Refused

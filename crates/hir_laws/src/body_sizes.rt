@@ -3,12 +3,15 @@ ghost use Rattle.std.specs.Prelude.{◌≡◌, ◌↔◌, ℕ, Some, IsTrue, IfO
 ghost use Rattle.hir_laws.specs.Words.{Said, AllMentioned, IsSchedule, AreDepths, AreSchedules, ListIsShort, BodyIsSmall};
 
 use crate::scopes::MOST_STEPS;
-use hir_counts::hir_ids::{Test, said_of_body};
-use hir_counts::hir_raw::{RawBody, RawFacts, Said, Schedule};
-use hir_counts::hir_schedule::is_low;
 use hir_counts::{is_early, is_short, is_short_list};
+use hir_ids::{Test, said_of_body};
+use hir_raw::{RawBody, RawFacts, Said, Schedule};
+use hir_schedule::is_low;
 use hir_types::List;
 use std::alloc::{AllocError, Global};
+
+/// How many labels a body may have.
+const MOST_LABELS: u32 = 1048576;
 
 fn are_short(said: &[Said]) -> bool
     ensures { IsTrue result ↔ ((k : ℕ) (s : Said) → slice_get said.now k ≡ Some s → ListIsShort s.mention) }
@@ -34,10 +37,11 @@ fn is_small(at: usize, body: &RawBody, schedule: &Schedule) -> bool
         && is_short(body.exprs.as_slice())
         && is_short(body.pats.as_slice())
         && is_short(body.bindings.as_slice())
+        && body.labels <= MOST_LABELS
         && is_low(body, schedule, MOST_STEPS)
 }
 
-/// The lists of a body are short, and its tree is not deep.
+/// The lists of a body are short, its labels few, and its tree not deep.
 #[derive(Drop)]
 pub struct BodySizes<'a> {
     pub schedules: &'a List<Schedule>,

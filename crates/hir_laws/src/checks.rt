@@ -1,6 +1,6 @@
 //! The tests of the laws, in their order.
 ghost use Rattle.std.specs.Prelude.{◌≡◌, IfOk, IfErr, MatchOption, Ok, Err};
-ghost use Rattle.hir_laws.specs.Words.{AllHold, TypeIdsExist, BodyIdsExist, AreSchedules, IsLawful, PassesAll, item_tests, unread_tests, abstract_tests, body_tests, carried_tests, ids_tests, counts_tests, trees_tests, scopes_tests, sizes_tests, limits_tests, lang_tests, literals_tests, holes_tests, tests};
+ghost use Rattle.hir_laws.specs.Words.{AllHold, TypeIdsExist, BodyIdsExist, AreSchedules, IsLawful, PassesAll, item_tests, unread_tests, abstract_tests, carried_tests, ids_tests, counts_tests, trees_tests, scopes_tests, sizes_tests, limits_tests, lang_tests, literals_tests, holes_tests, tests};
 ghost use Rattle.hir_laws.specs.Own.{Refuses};
 
 use crate::body_sizes::BodySizes;
@@ -11,18 +11,18 @@ use crate::limits::LimitsInRange;
 use crate::literals::LiteralsInBits;
 use crate::scopes::{Scopes, schedules_of};
 use crate::trees::Trees;
-use hir_counts::hir_facts::{FactsList, Law};
-use hir_counts::hir_ids::{
-    AdtIds, AdtsCarried, AliasIds, AliasesCarried, BodiesCarried, BodyIds, FnIds, FnsCarried,
-    ImplIds, ImplsCarried, LangCarried, LangIds, ModuleIds, ProjectionMarks, TraitIds,
-    TraitsCarried, TypeIds, TypesCarried, VariantIds, VariantsCarried, first_broken, first_other,
-};
-use hir_counts::hir_raw::{RawFacts, Schedule};
 use hir_counts::{
     AdtCounts, AdtSizes, AliasCounts, AliasSizes, FnCounts, FnSizes, Holes, ImplCounts, ImplSizes,
     LangEarly, ModulesEarly, Standing, TraitCounts, TraitSizes, TypeSizes, VariantCounts,
     VariantSizes,
 };
+use hir_facts::{FactsList, Law};
+use hir_ids::{
+    AdtIds, AdtsCarried, AliasIds, AliasesCarried, BodyIds, FnIds, FnsCarried, ImplIds,
+    ImplsCarried, LangCarried, LangIds, ModuleIds, ProjectionMarks, TraitIds, TraitsCarried,
+    TypeIds, TypesCarried, VariantIds, VariantsCarried, first_broken, first_other,
+};
+use hir_raw::{RawFacts, Schedule};
 use hir_types::List;
 use std::alloc::Global;
 
@@ -80,15 +80,6 @@ fn check_abstract(alloc: Global, raw: &RawFacts) -> Result<(), FactsError>
     Ok(())
 }
 
-fn check_bodies(alloc: Global, raw: &RawFacts) -> Result<(), FactsError>
-    ensures ok { IfOk result (λ _. PassesAll raw.now body_tests) }
-    ensures err { IfErr result (λ e. Refuses raw.now body_tests e) }
-{
-    let bodies = first_broken(alloc, &BodiesCarried, raw, raw.bodies.as_slice())?;
-    allow(Law::Carried, FactsList::Bodies, bodies)?;
-    Ok(())
-}
-
 fn check_carried(alloc: Global, raw: &RawFacts) -> Result<(), FactsError>
     ensures ok { IfOk result (λ _. PassesAll raw.now carried_tests) }
     ensures err { IfErr result (λ e. Refuses raw.now carried_tests e) }
@@ -96,7 +87,6 @@ fn check_carried(alloc: Global, raw: &RawFacts) -> Result<(), FactsError>
     check_items(alloc, raw)?;
     check_unread(raw)?;
     check_abstract(alloc, raw)?;
-    check_bodies(alloc, raw)?;
     Ok(())
 }
 
@@ -246,13 +236,19 @@ fn check_lang(alloc: Global, raw: &RawFacts) -> Result<(), FactsError>
     Ok(())
 }
 
-fn check_literals(alloc: Global, raw: &RawFacts) -> Result<(), FactsError>
+fn check_literals(
+    alloc: Global,
+    raw: &RawFacts,
+    schedules: &List<Schedule>,
+) -> Result<(), FactsError>
+    requires { AreSchedules raw.now.bodies schedules.now }
     ensures ok { IfOk result (λ _. PassesAll raw.now literals_tests) }
     ensures err { IfErr result (λ e. Refuses raw.now literals_tests e) }
 {
     let variants = first_broken(alloc, &FieldNames, raw, raw.variants.as_slice())?;
     allow(Law::Literals, FactsList::Variants, variants)?;
-    let bodies = first_broken(alloc, &LiteralsInBits, raw, raw.bodies.as_slice())?;
+    let literals = LiteralsInBits { schedules };
+    let bodies = first_broken(alloc, &literals, raw, raw.bodies.as_slice())?;
     allow(Law::Literals, FactsList::Bodies, bodies)?;
     Ok(())
 }
@@ -283,7 +279,7 @@ pub fn check(alloc: Global, raw: &RawFacts) -> Result<List<Schedule>, FactsError
     check_sizes(alloc, raw, &schedules)?;
     check_limits(alloc, raw)?;
     check_lang(alloc, raw)?;
-    check_literals(alloc, raw)?;
+    check_literals(alloc, raw, &schedules)?;
     check_holes(alloc, raw)?;
     Ok(schedules)
 }

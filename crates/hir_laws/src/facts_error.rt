@@ -1,5 +1,5 @@
 //! Why facts are refused.
-use hir_counts::hir_facts::{FactsList, Law};
+use hir_facts::{FactsList, Law};
 use std::alloc::{AllocError, AllocFailed};
 use thiserror::Error;
 

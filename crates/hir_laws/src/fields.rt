@@ -4,8 +4,8 @@ ghost use Rattle.std.specs.Fmt.{decimal};
 ghost use Rattle.hir_laws.specs.Words.{RawField, AllHold, NamesFit};
 ghost use Rattle.hir_laws.specs.Own.{IsNew};
 
-use hir_counts::hir_ids::Test;
-use hir_counts::hir_raw::{RawCtor, RawFacts, RawField, RawVariant};
+use hir_ids::Test;
+use hir_raw::{RawCtor, RawFacts, RawField, RawVariant};
 use hir_types::Text;
 use std::alloc::{AllocError, Global};
 

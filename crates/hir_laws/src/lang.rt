@@ -2,8 +2,8 @@
 ghost use Rattle.std.specs.Prelude.{◌≡◌, ◌↔◌, IsTrue};
 ghost use Rattle.hir_laws.specs.Words.{HasNoParams, LangFits};
 
-use hir_counts::hir_ids::Test;
-use hir_counts::hir_raw::{RawFacts, RawLang};
+use hir_ids::Test;
+use hir_raw::{RawFacts, RawLang};
 use hir_types::TraitId;
 use std::alloc::{AllocError, Global};
 

@@ -5,9 +5,9 @@ ghost use Rattle.hir_laws.specs.Own.{Refuses};
 
 use crate::checks::check;
 use crate::facts_error::FactsError;
-use hir_counts::hir_facts::Facts;
-use hir_counts::hir_raw::RawFacts;
+use hir_facts::Facts;
 use hir_plain::plain_marks;
+use hir_raw::RawFacts;
 use std::alloc::Global;
 
 /// Tests the laws in their order, and keeps the facts where all hold. `FactsError::Law` names the

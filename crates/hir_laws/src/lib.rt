@@ -5,13 +5,15 @@ mod body_sizes;
 mod checks;
 mod facts_error;
 mod fields;
+mod labels;
 mod lang;
 mod lawful;
 mod limits;
 mod literals;
+mod or_patterns;
 mod scopes;
+mod targets;
 mod trees;
 
 pub use facts_error::FactsError;
-pub use hir_counts::hir_facts;
 pub use lawful::lawful_facts;

@@ -2,8 +2,8 @@
 ghost use Rattle.std.specs.Prelude.{◌≡◌};
 ghost use Rattle.hir_laws.specs.Words.{limits_of, most_at, IsInRange};
 
-use hir_counts::hir_ids::Test;
-use hir_counts::hir_raw::RawFacts;
+use hir_ids::Test;
+use hir_raw::RawFacts;
 use std::alloc::{AllocError, Global};
 
 fn most_at(at: usize) -> u32

@@ -1,12 +1,14 @@
-//! Literals stand for values of at most 128 bits, and characters are scalar values.
-ghost use Rattle.std.specs.Prelude.{◌≡◌, ◌↔◌, ◌<◌, ◌^◌, ◌&&◌, ℕ, Some, nat_le, length, map, slice_get, slice_index_or, IsTrue, IfOk, IfSome, MatchOption};
-ghost use Rattle.hir_laws.specs.Words.{and_digit, value_of, without_minus, IsInBits, IsSignedInBits, IsLiteral, LiteralsFit, RawPat, AllHold};
+//! Literals stand for values of at most 128 bits, and characters are scalar values; patterns that are
+//! expressions stand where they may.
+ghost use Rattle.std.specs.Prelude.{◌≡◌, ◌↔◌, ◌⊎◌, ◌<◌, ◌^◌, ◌&&◌, ℕ, Some, nat_le, length, map, option_map, slice_get, slice_index_or, IsTrue, IfOk, IfSome, MatchOption};
+ghost use Rattle.hir_laws.specs.Words.{and_digit, value_of, without_minus, AreSchedules, DotsFit, IsAnyLiteral, IsInBits, IsSchedule, IsSignedInBits, LaterDotsFit, LiteralsFit, RawPat, AllHold};
 ghost use Rattle.hir_laws.specs.Words.hir_ids.declared.namers.Namers.TheVariants.{Nobody};
-ghost use Rattle.hir_laws.specs.Own.{IsSmall, literal_of, ArePatterns, IsSomeones, ExprIsInBits, PatIsLiteral};
+ghost use Rattle.hir_laws.specs.Own.{IsSmall, first_literal, last_literal, AreNamedAs, IsSomeones, ExprIsInBits, LiteralsHold, PatIsLiteral};
 
-use hir_counts::hir_ids::{Namers, Test, namers_of};
-use hir_counts::hir_raw::{RawBody, RawExpr, RawFacts, RawLiteral, RawPat};
-use hir_types::ExprId;
+use crate::targets::have_targets;
+use hir_ids::{Namers, Test, namers_of};
+use hir_raw::{LaterExpr, LaterPat, RawBody, RawExpr, RawFacts, RawLiteral, RawPat, Schedule};
+use hir_types::{ExprId, List};
 use std::alloc::{AllocError, Global};
 
 fn is_digit(c: u8) -> bool
@@ -48,7 +50,7 @@ fn is_in_bits(literal: &RawLiteral) -> bool
     ensures { IsTrue result ↔ IsInBits literal.now }
 {
     match literal {
-        RawLiteral::Bool(_) | RawLiteral::Other => true,
+        RawLiteral::Bool(_) => true,
         RawLiteral::Char(code) => char::from_u32(*code).is_some(),
         RawLiteral::Int { digits, suffix: _ } => is_small(digits.as_str().as_bytes()),
     }
@@ -67,7 +69,7 @@ fn is_signed_in_bits(literal: &RawLiteral) -> bool
     ensures { IsTrue result ↔ IsSignedInBits literal.now }
 {
     match literal {
-        RawLiteral::Bool(_) | RawLiteral::Other => true,
+        RawLiteral::Bool(_) => true,
         RawLiteral::Char(code) => char::from_u32(*code).is_some(),
         RawLiteral::Int { digits, suffix: _ } => {
             is_small(without_minus(digits.as_str().as_bytes()))
@@ -75,26 +77,59 @@ fn is_signed_in_bits(literal: &RawLiteral) -> bool
     }
 }
 
-fn literal_of(pat: &RawPat) -> Option<usize>
-    ensures { result ≡ literal_of pat.now }
+fn place_of(expr: Option<ExprId>) -> Option<usize>
+    ensures { result ≡ option_map (λ e. e.0) expr }
+{
+    match expr {
+        None => None,
+        Some(expr) => Some(expr.0 as usize),
+    }
+}
+
+fn first_literal(pat: &RawPat) -> Option<usize>
+    ensures { result ≡ first_literal pat.now }
 {
     match pat {
         RawPat::Lit(e) => Some(e.0 as usize),
+        RawPat::Later(LaterPat::Range { start, end: _ }) => place_of(*start),
         _ => None,
     }
 }
 
-fn literals_of(alloc: Global, pats: &[RawPat]) -> Result<Vec<Option<usize>>, AllocError>
-    ensures { IfOk result (λ v. v.items ≡ map literal_of pats.now) }
+fn last_literal(pat: &RawPat) -> Option<usize>
+    ensures { result ≡ last_literal pat.now }
 {
-    pats.iter().map(|pat| literal_of(pat)).collect(alloc)
+    match pat {
+        RawPat::Later(LaterPat::Range { start: _, end }) => place_of(*end),
+        _ => None,
+    }
 }
 
-/// Which patterns are each expression of a body.
-fn patterns_of(alloc: Global, body: &RawBody) -> Result<Vec<Namers>, AllocError>
-    ensures { IfOk result (λ v. ArePatterns body.now v.items) }
+fn first_literals(alloc: Global, pats: &[RawPat]) -> Result<Vec<Option<usize>>, AllocError>
+    ensures { IfOk result (λ v. v.items ≡ map first_literal pats.now) }
 {
-    let targets = literals_of(alloc, body.pats.as_slice())?;
+    pats.iter().map(|pat| first_literal(pat)).collect(alloc)
+}
+
+fn last_literals(alloc: Global, pats: &[RawPat]) -> Result<Vec<Option<usize>>, AllocError>
+    ensures { IfOk result (λ v. v.items ≡ map last_literal pats.now) }
+{
+    pats.iter().map(|pat| last_literal(pat)).collect(alloc)
+}
+
+/// Which patterns are each expression of a body, or are ranges that begin with it.
+fn begun_with(alloc: Global, body: &RawBody) -> Result<Vec<Namers>, AllocError>
+    ensures { IfOk result (λ v. AreNamedAs first_literal body.now v.items) }
+{
+    let targets = first_literals(alloc, body.pats.as_slice())?;
+    namers_of(alloc, &targets, body.exprs.len())
+}
+
+/// Which patterns are ranges that end with each expression of a body.
+fn ended_with(alloc: Global, body: &RawBody) -> Result<Vec<Namers>, AllocError>
+    ensures { IfOk result (λ v. AreNamedAs last_literal body.now v.items) }
+{
+    let targets = last_literals(alloc, body.pats.as_slice())?;
     namers_of(alloc, &targets, body.exprs.len())
 }
 
@@ -107,23 +142,30 @@ fn is_someones(namers: Namers) -> bool
     }
 }
 
-fn expr_is_in_bits(namers: Namers, expr: &RawExpr) -> bool
-    ensures { IsTrue result ↔ ExprIsInBits namers expr.now }
+fn may_have_minus(first: Namers, last: Namers) -> bool
+    ensures { IsTrue result ↔ (IsSomeones first ⊎ IsSomeones last) }
+{
+    is_someones(first) || is_someones(last)
+}
+
+fn expr_is_in_bits(first: Namers, last: Namers, expr: &RawExpr) -> bool
+    ensures { IsTrue result ↔ ExprIsInBits first last expr.now }
 {
     match expr {
         RawExpr::Lit(literal) => {
-            is_in_bits(literal) || (is_someones(namers) && is_signed_in_bits(literal))
+            is_in_bits(literal) || (may_have_minus(first, last) && is_signed_in_bits(literal))
         }
         _ => true,
     }
 }
 
-fn are_in_bits(body: &RawBody, patterns: &[Namers]) -> bool
-    requires { length patterns.now ≡ length body.now.exprs }
-    ensures { IsTrue result ↔ AllHold (λ e x. ExprIsInBits (slice_index_or patterns.now e Nobody) x) body.now.exprs }
+fn are_in_bits(body: &RawBody, firsts: &[Namers], lasts: &[Namers]) -> bool
+    requires firsts { length firsts.now ≡ length body.now.exprs }
+    requires lasts { length lasts.now ≡ length body.now.exprs }
+    ensures { IsTrue result ↔ AllHold (λ e x. ExprIsInBits (slice_index_or firsts.now e Nobody) (slice_index_or lasts.now e Nobody) x) body.now.exprs }
 {
     for (e, expr) in body.exprs.as_slice().iter().enumerate() {
-        if !expr_is_in_bits(patterns[e], expr) {
+        if !expr_is_in_bits(firsts[e], lasts[e], expr) {
             return false;
         }
     }
@@ -131,9 +173,12 @@ fn are_in_bits(body: &RawBody, patterns: &[Namers]) -> bool
 }
 
 fn is_literal(body: &RawBody, expr: ExprId) -> bool
-    ensures { IsTrue result ↔ IsLiteral (slice_get body.now.exprs expr.0) }
+    ensures { IsTrue result ↔ IsAnyLiteral (slice_get body.now.exprs expr.0) }
 {
-    matches!(body.exprs.get(expr.0 as usize), Some(RawExpr::Lit(_)))
+    matches!(
+        body.exprs.get(expr.0 as usize),
+        Some(RawExpr::Lit(_)) | Some(RawExpr::Later(LaterExpr::Lit(_)))
+    )
 }
 
 fn pat_is_literal(body: &RawBody, pat: &RawPat) -> bool
@@ -145,35 +190,83 @@ fn pat_is_literal(body: &RawBody, pat: &RawPat) -> bool
     }
 }
 
-fn are_literals(body: &RawBody) -> bool
-    ensures { IsTrue result ↔ ((p : ℕ) (x : RawPat) → slice_get body.now.pats p ≡ Some x → PatIsLiteral body.now x) }
+fn later_dots_fit(pat: &LaterPat) -> bool
+    ensures { IsTrue result ↔ LaterDotsFit pat.now }
+{
+    match pat {
+        LaterPat::TupleDots { args, dots } => *dots as usize <= args.len(),
+        LaterPat::TupleStruct {
+            path: _,
+            args,
+            dots: Some(dots),
+        } => *dots as usize <= args.len(),
+        _ => true,
+    }
+}
+
+fn dots_fit(pat: &RawPat) -> bool
+    ensures { IsTrue result ↔ DotsFit pat.now }
+{
+    match pat {
+        RawPat::Later(pat) => later_dots_fit(pat),
+        _ => true,
+    }
+}
+
+fn pats_fit(body: &RawBody) -> bool
+    ensures { IsTrue result ↔ ((p : ℕ) (x : RawPat) → slice_get body.now.pats p ≡ Some x → PatIsLiteral body.now x × DotsFit x) }
 {
     body.pats
         .as_slice()
         .iter()
-        .all(|pat| pat_is_literal(body, pat))
+        .all(|pat| pat_is_literal(body, pat) && dots_fit(pat))
 }
 
-/// The literals of a body are in their bits.
-pub struct LiteralsInBits;
+/// Whether literals are in their bits, and patterns fit.
+fn literals_hold(alloc: Global, body: &RawBody) -> Result<bool, AllocError>
+    ensures { IfOk result (λ told. IsTrue told ↔ LiteralsHold body.now) }
+{
+    let firsts = begun_with(alloc, body)?;
+    let lasts = ended_with(alloc, body)?;
+    if !are_in_bits(body, &firsts, &lasts) {
+        return Ok(false);
+    }
+    Ok(pats_fit(body))
+}
 
-impl Test for LiteralsInBits {
+fn literals_fit(alloc: Global, body: &RawBody, schedule: &Schedule) -> Result<bool, AllocError>
+    requires { IsSchedule body.now schedule.now }
+    ensures { IfOk result (λ told. IsTrue told ↔ LiteralsFit body.now) }
+{
+    if !literals_hold(alloc, body)? {
+        return Ok(false);
+    }
+    have_targets(alloc, body, schedule)
+}
+
+/// Literals are in their bits, and patterns that are expressions stand where they may.
+#[derive(Drop)]
+pub struct LiteralsInBits<'a> {
+    pub schedules: &'a List<Schedule>,
+}
+
+impl<'a> Test for LiteralsInBits<'a> {
     type Item = RawBody;
 
     ghost listed = { λ raw. raw.bodies };
 
     ghost holds = { λ raw i b. LiteralsFit b };
 
-    ghost given = { λ raw s. Unit {0} };
+    ghost given = { λ raw s. AreSchedules raw.bodies s.schedules.now };
 
     fn test(
         &self,
         alloc: Global,
         _raw: &RawFacts,
-        _at: usize,
+        at: usize,
         item: &RawBody,
     ) -> Result<bool, AllocError> {
-        let patterns = patterns_of(alloc, item)?;
-        Ok(are_in_bits(item, &patterns) && are_literals(item))
+        let schedule = &self.schedules.as_slice()[at];
+        literals_fit(alloc, item, schedule)
     }
 }

@@ -4,10 +4,10 @@ ghost use Rattle.hir_laws.specs.Words.{Said, PartsFit, IsSchedule, AreDepths, Al
 ghost use Rattle.hir_laws.specs.Words.hir_raw.Order.{IsTree};
 ghost use Rattle.hir_laws.specs.Own.{binding_bound, and_number, comes_before, AreFirsts, ComesAfter, LocalsExist};
 
-use hir_counts::hir_ids::{Test, said_of_body};
-use hir_counts::hir_raw::{Mention, RawBody, RawFacts, Said, Schedule};
-use hir_counts::hir_schedule::{is_low, schedule_of};
 use hir_counts::number_at;
+use hir_ids::{Test, said_of_body};
+use hir_raw::{Mention, RawBody, RawFacts, Said, Schedule};
+use hir_schedule::{is_low, schedule_of};
 use hir_types::List;
 use std::alloc::{AllocError, Global};
 

@@ -1,17 +1,20 @@
-//! The nodes of a body are a tree, and each binding is bound once.
+//! The nodes of a body are a tree, each binding is bound once, but for the parts of or-patterns, and
+//! each label stands once.
 ghost use Rattle.std.specs.Prelude.{◌≡◌, ◌↔◌, ◌<◌, ℕ, IsTrue, IfOk, length, map, slice_index_or};
-ghost use Rattle.hir_laws.specs.Words.{PartsFit, AllHold, BodyIdsExist, IsWellFormed};
-ghost use Rattle.hir_laws.specs.Words.hir_raw.Order.{IsTree};
+ghost use Rattle.hir_laws.specs.Words.{PartsFit, AllHold, BodyIdsExist, IsSchedule, IsWellFormed};
 ghost use Rattle.hir_laws.specs.Words.hir_ids.declared.namers.Namers.TheVariants.{Nobody};
-ghost use Rattle.hir_laws.specs.Own.{bound_binding, AreBinders, is_self, is_bound_once};
+ghost use Rattle.hir_laws.specs.Own.{AllBound, AreBinders, bound_binding, is_bound, is_self};
 
-use hir_counts::hir_ids::{Namers, Test, binding_of, namers_of};
-use hir_counts::hir_raw::{RawBody, RawFacts, RawPat};
-use hir_counts::hir_schedule::schedule_of;
+use crate::labels::stand_once;
+use crate::or_patterns::are_alternatives;
+use hir_ids::{Namers, Test, binding_of, namers_of};
+use hir_raw::{RawBody, RawFacts, RawPat, Schedule};
+use hir_schedule::schedule_of;
 use hir_types::BindingId;
 use std::alloc::{AllocError, Global};
 
-fn bound_binding(pat: &RawPat) -> Option<usize>
+/// The binding of a pattern, by its number.
+pub fn bound_binding(pat: &RawPat) -> Option<usize>
     ensures { result ≡ bound_binding pat.now }
 {
     match binding_of(pat) {
@@ -27,7 +30,7 @@ fn bound_bindings(alloc: Global, pats: &[RawPat]) -> Result<Vec<Option<usize>>, 
 }
 
 /// Which patterns bind each binding of a body.
-pub fn binders_of(alloc: Global, body: &RawBody) -> Result<Vec<Namers>, AllocError>
+fn binders_of(alloc: Global, body: &RawBody) -> Result<Vec<Namers>, AllocError>
     ensures { IfOk result (λ v. AreBinders body.now v.items) }
 {
     let targets = bound_bindings(alloc, body.pats.as_slice())?;
@@ -35,7 +38,7 @@ pub fn binders_of(alloc: Global, body: &RawBody) -> Result<Vec<Namers>, AllocErr
 }
 
 /// Whether this binding is `self`.
-pub fn is_self(own: Option<BindingId>, v: usize) -> bool
+fn is_self(own: Option<BindingId>, v: usize) -> bool
     ensures { result ≡ is_self own v }
 {
     match own {
@@ -44,36 +47,53 @@ pub fn is_self(own: Option<BindingId>, v: usize) -> bool
     }
 }
 
-fn is_bound_once(is_self: bool, binders: Namers) -> bool
-    ensures { result ≡ is_bound_once is_self binders }
+fn is_bound(is_self: bool, binders: Namers) -> bool
+    ensures { result ≡ is_bound is_self binders }
 {
     match binders {
         Namers::Nobody => is_self,
-        Namers::One(_) => !is_self,
-        Namers::Several => false,
+        Namers::One(_) | Namers::Several => !is_self,
     }
 }
 
-fn are_bound_once(body: &RawBody, binders: &[Namers]) -> bool
-    ensures { IsTrue result ↔ ((v : ℕ) → v < length binders.now → IsTrue (is_bound_once (is_self body.now.self_ v) (slice_index_or binders.now v Nobody))) }
+fn are_bound(body: &RawBody, binders: &[Namers]) -> bool
+    ensures { IsTrue result ↔ ((v : ℕ) → v < length binders.now → IsTrue (is_bound (is_self body.now.self_ v) (slice_index_or binders.now v Nobody))) }
 {
     for (v, binder) in binders.iter().enumerate() {
-        if !is_bound_once(is_self(body.self_, v), *binder) {
+        if !is_bound(is_self(body.self_, v), *binder) {
             return false;
         }
     }
     true
 }
 
-fn is_tree(alloc: Global, body: &RawBody) -> Result<bool, AllocError>
-    requires { PartsFit body.now }
-    ensures { IfOk result (λ told. IsTrue told ↔ IsTree body.now) }
+/// Whether each binding is bound by `self` alone, or by patterns that are alternatives.
+fn are_bound_once(alloc: Global, body: &RawBody, schedule: &Schedule) -> Result<bool, AllocError>
+    requires { IsSchedule body.now schedule.now }
+    ensures { IfOk result (λ told. IsTrue told ↔ AllBound body.now) }
 {
-    let schedule = schedule_of(alloc, body)?;
-    Ok(schedule.is_some())
+    let binders = binders_of(alloc, body)?;
+    if !are_bound(body, &binders) {
+        return Ok(false);
+    }
+    are_alternatives(alloc, body, schedule)
 }
 
-/// The nodes of a body are a tree, and each binding is bound once.
+fn is_well_formed(alloc: Global, body: &RawBody) -> Result<bool, AllocError>
+    requires { PartsFit body.now }
+    ensures { IfOk result (λ told. IsTrue told ↔ IsWellFormed body.now) }
+{
+    let Some(schedule) = schedule_of(alloc, body)? else {
+        return Ok(false);
+    };
+    if !are_bound_once(alloc, body, &schedule)? {
+        return Ok(false);
+    }
+    stand_once(alloc, body)
+}
+
+/// The nodes of a body are a tree, each binding is bound once, but for the parts of or-patterns, and
+/// each label stands once.
 pub struct Trees;
 
 impl Test for Trees {
@@ -92,10 +112,6 @@ impl Test for Trees {
         _at: usize,
         item: &RawBody,
     ) -> Result<bool, AllocError> {
-        if !is_tree(alloc, item)? {
-            return Ok(false);
-        }
-        let binders = binders_of(alloc, item)?;
-        Ok(are_bound_once(item, &binders))
+        is_well_formed(alloc, item)
     }
 }

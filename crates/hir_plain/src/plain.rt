@@ -4,9 +4,9 @@ ghost use Rattle.hir_plain.specs.Words.{TypeRefId, IsLawful, IsMarked, ArePlainN
 ghost use Rattle.hir_plain.specs.Own.{named_adt, type_children, field_ids, adt_children, plain_graph, is_fine_type, fine_nodes, HasMarkedSignature};
 
 use crate::spread::good_nodes;
+use hir_facts::{PlainMarks, are_sized_preds, mark_at};
 use hir_ids::are_type_params;
-use hir_ids::hir_facts::{PlainMarks, are_sized_preds, mark_at};
-use hir_ids::hir_raw::{RawAdt, RawAdtKind, RawAt, RawFacts, RawField, RawFn, RawType, RawVariant};
+use hir_raw::{RawAdt, RawAdtKind, RawAt, RawFacts, RawField, RawFn, RawType, RawVariant};
 use hir_types::{List, TypeRefId, VariantId};
 use std::alloc::{AllocError, Global};
 

@@ -45,7 +45,7 @@ module _ (b : RawBody) (s : Schedule) (law : IsSchedule b s) where
       let grown = law.order (inner d.node) h.0 in
       (q.0, omega (arith, q.1, h.1, grown), q.2)
 
-  parts_apart : (from : ℕ) (ps : List Part) (i j k : ℕ) (p q : Part) → Fits b s from ps → slice_get ps i ≡ Some p → slice_get ps j ≡ Some q
+  pub parts_apart : (from : ℕ) (ps : List Part) (i j k : ℕ) (p q : Part) → Fits b s from ps → slice_get ps i ≡ Some p → slice_get ps j ≡ Some q
       → start b s (inner p.node) ≤ k → k < end b s (inner p.node) → start b s (inner q.node) ≤ k → k < end b s (inner q.node) → i ≡ j
   parts_apart from [] i j k p q h e g l m n o = absurd (cc)
   parts_apart from (x ∷ ps) zero zero k p q h e g l m n o = refl
@@ -81,13 +81,13 @@ module _ (b : RawBody) (s : Schedule) (law : IsSchedule b s) where
   pub parts_fit : PartsFit b
   parts_fit n k p h e = (part_inside n k p h e).0
 
-  under : (n : Node) (k : ℕ) → IsNode b n → start b s n < k → k < end b s n → Under b s n k
+  pub under : (n : Node) (k : ℕ) → IsNode b n → start b s n < k → k < end b s n → Under b s n k
   under n k h l m =
       let q = part_find (start b s n + 1) (parts b n) k (law.fits n h) (omega arith) (omega (arith, law.ends n h)) in
       record { place = q.0; part = q.1; there = q.2; from = q.3; below = q.4 }
 
   -- the numbers of a node that starts among another's are among the other's
-  nested : (fuel : ℕ) (n m : Node) → IsNode b n → IsNode b m → end b s n ≤ start b s n + fuel → start b s n ≤ start b s m → start b s m < end b s n → end b s m ≤ end b s n
+  pub nested : (fuel : ℕ) (n m : Node) → IsNode b n → IsNode b m → end b s n ≤ start b s n + fuel → start b s n ≤ start b s m → start b s m < end b s n → end b s m ≤ end b s n
   nested zero n m h k f l u = absurd (omega arith)
   nested (suc fuel) n m h k f l u =
       elim (cases_lt (start b s n) (start b s m)) [

@@ -54,7 +54,8 @@ fits_step raw n (Ty-F.Closure i bs b) = list_all (λ b. b) bs && b
 fits_step raw n (Ty-F.Dynamic o bs ts) = names_none o bs ts
 fits_step raw n (Ty-F.Param i) = nat_lt i n
 fits_step raw n (Ty-F.Projection i bs) = has_params (alias_params_by raw (slice_get raw.aliases i.0)) (length bs) && list_all (λ b. b) bs
-fits_step raw n (Ty-F.AssociatedType i bs) = has_params (alias_params_by raw (slice_get raw.aliases i.0)) (length bs) && list_all (λ b. b) bs
+fits_step raw n (Ty-F.AssociatedType i bs) =
+    has_params (alias_params_by raw (slice_get raw.aliases i.0)) (length bs) && list_all (λ b. b) bs
 fits_step raw n (Ty-F.Opaque i bs) = false
 fits_step raw n Ty-F.Error = true
 fits_step raw n (Ty-F.Var i) = true

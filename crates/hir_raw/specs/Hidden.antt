@@ -1,4 +1,5 @@
--- Associated types that stand in what a function or a constructor takes and gives. Each is read as a parameter of its own, after those of the
+-- Associated types that stand in what a function or a constructor takes and gives. Each is read as a parameter of its own, after those of
+-- the
 -- function or the adt, of which a goal says what it is: `fn f<T: A>(x: T) -> T::X` is `fn f<T, X>(x: T) -> X` where `T: A<X = X>` (the Rust
 -- Reference, "Associated types"; upstream `infer/unify.rs`, `normalize_associated_types_in`).
 use Rattle.std.specs.Prelude.{ℕ, zero, suc, ◌+◌, Bool, true, false, ◌==◌, if◌then◌else◌, List, [], ◌∷◌, ◌++◌, map, length, slice_get, Option, Some, None, option_map}

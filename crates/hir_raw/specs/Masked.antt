@@ -13,9 +13,13 @@ masked_at (x ∷ xs) zero = refl
 masked_at (x ∷ xs) (suc k) = masked_at xs k
 
 -- an associated type is a `_`
-pub alias_is_hole : (types : List RawType) (k : ℕ) (x : RawType) → slice_get types k ≡ Some x → is_alias x ≡ true → slice_get (masked types) k ≡ Some type.Hole
-alias_is_hole types k x at is = masked_at types k ∙ (ap (option_map masked_type) at ∙ ap (λ (b : Bool). Some (if b then type.Hole else x)) is)
+pub alias_is_hole : (types : List RawType) (k : ℕ) (x : RawType) → slice_get types k ≡ Some x → is_alias x ≡ true
+    → slice_get (masked types) k ≡ Some type.Hole
+alias_is_hole types k x at is =
+    masked_at types k ∙ (ap (option_map masked_type) at ∙ ap (λ (b : Bool). Some (if b then type.Hole else x)) is)
 
 -- and another type itself
-pub other_is_itself : (types : List RawType) (k : ℕ) (x : RawType) → slice_get types k ≡ Some x → is_alias x ≡ false → slice_get (masked types) k ≡ Some x
-other_is_itself types k x at is = masked_at types k ∙ (ap (option_map masked_type) at ∙ ap (λ (b : Bool). Some (if b then type.Hole else x)) is)
+pub other_is_itself : (types : List RawType) (k : ℕ) (x : RawType) → slice_get types k ≡ Some x → is_alias x ≡ false
+    → slice_get (masked types) k ≡ Some x
+other_is_itself types k x at is =
+    masked_at types k ∙ (ap (option_map masked_type) at ∙ ap (λ (b : Bool). Some (if b then type.Hole else x)) is)

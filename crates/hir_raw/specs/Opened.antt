@@ -17,12 +17,15 @@ none_more j = omega arith
 next_more : (j k : ℕ) → suc j + k ≡ j + suc k
 next_more j k = omega arith
 
-opened_from_at : (n : ℕ) (ks : List ℕ) (j : ℕ) (types : List RawType) (k : ℕ) → slice_get (opened_from n ks j types) k ≡ option_map (opened_type n ks (j + k)) (slice_get types k)
+opened_from_at : (n : ℕ) (ks : List ℕ) (j : ℕ) (types : List RawType) (k : ℕ)
+    → slice_get (opened_from n ks j types) k ≡ option_map (opened_type n ks (j + k)) (slice_get types k)
 opened_from_at n ks j [] k = refl
 opened_from_at n ks j (x ∷ xs) zero = ap (λ m. Some (opened_type n ks m x)) (sym (none_more j))
-opened_from_at n ks j (x ∷ xs) (suc k) = opened_from_at n ks (suc j) xs k ∙ ap (λ m. option_map (opened_type n ks m) (slice_get xs k)) (next_more j k)
+opened_from_at n ks j (x ∷ xs) (suc k) =
+    opened_from_at n ks (suc j) xs k ∙ ap (λ m. option_map (opened_type n ks m) (slice_get xs k)) (next_more j k)
 
-pub opened_at : (n : ℕ) (ks : List ℕ) (types : List RawType) (k : ℕ) → slice_get (opened n ks types) k ≡ option_map (opened_type n ks k) (slice_get types k)
+pub opened_at : (n : ℕ) (ks : List ℕ) (types : List RawType) (k : ℕ)
+    → slice_get (opened n ks types) k ≡ option_map (opened_type n ks k) (slice_get types k)
 opened_at n ks types k = opened_from_at n ks zero types k ∙ ap (λ m. option_map (opened_type n ks m) (slice_get types k)) (zero_more k)
 
 -- there are as many
@@ -54,14 +57,16 @@ pub none_opened : (n : ℕ) (types : List RawType) → opened n [] types ≡ typ
 none_opened n types = none_from n zero types
 
 -- each part of an opened type is a part of the type
-pub opened_parts : (n : ℕ) (ks : List ℕ) (k : ℕ) (x : RawType) (i : ℕ) (w : TypeRefId) → slice_get (type_parts (opened_type n ks k x)) i ≡ Some w → slice_get (type_parts x) i ≡ Some w
+pub opened_parts : (n : ℕ) (ks : List ℕ) (k : ℕ) (x : RawType) (i : ℕ) (w : TypeRefId)
+    → slice_get (type_parts (opened_type n ks k x)) i ≡ Some w → slice_get (type_parts x) i ≡ Some w
 opened_parts n ks k x i w found = by_alias (is_alias x) found
   where
     by_place : (o : Option ℕ) → slice_get (type_parts (opened_by n x o)) i ≡ Some w → slice_get (type_parts x) i ≡ Some w
     by_place None at = at
     by_place (Some p) at = absurd (cc)
 
-    by_alias : (b : Bool) → slice_get (type_parts (if b then opened_by n x (place_in k ks) else x)) i ≡ Some w → slice_get (type_parts x) i ≡ Some w
+    by_alias : (b : Bool) → slice_get (type_parts (if b then opened_by n x (place_in k ks) else x)) i ≡ Some w
+        → slice_get (type_parts x) i ≡ Some w
     by_alias true at = by_place (place_in k ks) at
     by_alias false at = at
 
@@ -71,10 +76,12 @@ pub place_below : (k : ℕ) (ks : List ℕ) (p : ℕ) → place_in k ks ≡ Some
 place_below k [] p found = absurd (cc)
 place_below k (j ∷ js) p found = by_first (k == j) (λ q is. place_below k js q is) found
   where
-    by_rest : (o : Option ℕ) → place_in k js ≡ o → ((q : ℕ) → place_in k js ≡ Some q → q < length js) → option_map suc o ≡ Some p → p < suc (length js)
+    by_rest : (o : Option ℕ) → place_in k js ≡ o → ((q : ℕ) → place_in k js ≡ Some q → q < length js) → option_map suc o ≡ Some p
+        → p < suc (length js)
     by_rest None is rest at = absurd (cc)
     by_rest (Some q) is rest at = (let below : q < length js = rest q is in let next : suc q ≡ p = cc in omega arith)
 
-    by_first : (b : Bool) → ((q : ℕ) → place_in k js ≡ Some q → q < length js) → (if b then Some zero else option_map suc (place_in k js)) ≡ Some p → p < suc (length js)
+    by_first : (b : Bool) → ((q : ℕ) → place_in k js ≡ Some q → q < length js)
+        → (if b then Some zero else option_map suc (place_in k js)) ≡ Some p → p < suc (length js)
     by_first true rest at = (let first : zero ≡ p = cc in omega arith)
     by_first false rest at = by_rest (place_in k js) refl rest at

@@ -30,7 +30,6 @@ abbrev pub names_item : RawPath → Option CallableDefId
 names_item (path.Local v) = None
 names_item (path.Function f) = Some (callable.FunctionId f)
 names_item (path.Ctor v) = Some (callable.VariantId v)
-names_item path.Other = None
 
 -- ---- how many parameters an item has, where it exists
 

@@ -79,7 +79,8 @@ ctor_signature types n x = signature_by x.ctor types n x
 abbrev pub ctor_item : VariantId → List Ty → Ty
 ctor_item v ts = ty.FnDef (callable.VariantId v) (type_args ts)
 
--- What a path to a constructor is, at these types for its parameters. No associated type stands in a field of a variant `V`, so its parameters are
+-- What a path to a constructor is, at these types for its parameters. No associated type stands in a field of a variant `V`, so its
+-- parameters are
 -- those of its adt.
 abbrev pub ctor_type_by : RawCtor → AdtId → VariantId → List Ty → Ty
 ctor_type_by ctor.Unit a v ts = ty.Adt a (type_args ts)
@@ -113,15 +114,18 @@ params_at : (ts us : List Ty) (i : ℕ)
 params_at ts [] i h = refl
 params_at ts (u ∷ us) i h =
     let first : at_args ts (ty.Param i) ≡ u = param_at ts i u (subst (λ n. slice_get ts n ≡ Some u) (plus_zero i) (h 0 u refl)) in
-    let rest : map (at_args ts) (params_from (suc i) (length us)) ≡ us = params_at ts us (suc i) (λ k t e. subst (λ n. slice_get ts n ≡ Some t) (plus_suc i k) (h (suc k) t e)) in
+    let rest : map (at_args ts) (params_from (suc i) (length us)) ≡ us =
+    params_at ts us (suc i) (λ k t e. subst (λ n. slice_get ts n ≡ Some t) (plus_suc i k) (h (suc k) t e)) in
     λ j. first j ∷ rest j
 
 -- at types of which the first are for its parameters it is the adt at these
-pub own_adt_first : (a : AdtId) (ts us : List Ty) → ((k : ℕ) (u : Ty) → slice_get us k ≡ Some u → slice_get ts k ≡ Some u) → at_args ts (own_adt a (length us)) ≡ ty.Adt a (type_args us)
+pub own_adt_first : (a : AdtId) (ts us : List Ty) → ((k : ℕ) (u : Ty) → slice_get us k ≡ Some u → slice_get ts k ≡ Some u)
+    → at_args ts (own_adt a (length us)) ≡ ty.Adt a (type_args us)
 own_adt_first a ts us first =
     let s : Replacement = with_params (type_args ts) in
     replaced_adt s a (type_args (params_from 0 (length us)))
-    ∙ ap (ty.Adt a) (types_args_replaced s (params_from 0 (length us)) ∙ ap type_args (params_at ts us 0 (λ k u e. subst (λ n. slice_get ts n ≡ Some u) (from_zero k) (first k u e))))
+    ∙ ap (ty.Adt a) (types_args_replaced s (params_from 0 (length us)) ∙ ap type_args
+    (params_at ts us 0 (λ k u e. subst (λ n. slice_get ts n ≡ Some u) (from_zero k) (first k u e))))
 
 pub own_adt_at : (a : AdtId) (ts : List Ty) → at_args ts (own_adt a (length ts)) ≡ ty.Adt a (type_args ts)
 own_adt_at a ts = own_adt_first a ts ts (λ k u e. e)

@@ -4,6 +4,7 @@
 
 mod fit;
 mod hidden;
+mod later;
 mod lets;
 mod mention;
 mod raw;
@@ -12,6 +13,10 @@ mod scope;
 
 pub use fit::ty_fits;
 pub use hidden::{fn_aliases, fn_arity, less_variant_aliases, variant_aliases, variant_arity};
+pub use later::{
+    ArithOp, BinaryOp, CmpOp, LaterExpr, LaterLiteral, LaterPat, LaterPath, LogicOp, RawArg,
+    RawClosureParam, RawConst, RawRecordField, RawRecordFieldPat, RawVariantPath, UnaryOp,
+};
 pub use lets::{let_aliases, stmts_of};
 pub use mention::{LabelRole, Mention, Said};
 pub use raw::{

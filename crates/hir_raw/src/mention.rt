@@ -1,5 +1,8 @@
 //! What a node names beside its parts.
-use hir_types::{BindingId, FunctionId, LabelId, TypeRefId, VariantId};
+use crate::later::RawConst;
+use hir_types::{
+    BindingId, ConstId, FunctionId, ImplId, LabelId, StaticId, TraitId, TypeRefId, VariantId,
+};
 
 /// What a node does with a label.
 #[derive(Clone, Copy, Debug)]
@@ -19,10 +22,21 @@ pub enum Mention {
     Local(BindingId),
     /// A binding that is bound here.
     Binds(BindingId),
-    /// A function, by its path.
+    /// A function of a module, by its path.
     Function(FunctionId),
     /// A variant of an adt.
     Variant(VariantId),
+    /// A constant of a module, by its path.
+    ConstItem(ConstId),
+    Static(StaticId),
+    /// A trait.
+    Trait(TraitId),
+    /// The impl whose `Self` is meant.
+    SelfOf(ImplId),
+    /// The const parameter with this number.
+    ConstParam(u32),
+    /// A const argument or a length.
+    Const(RawConst),
     /// A label.
     Label(LabelRole, LabelId),
     /// A list with so many entries.

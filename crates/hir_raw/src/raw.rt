@@ -6,6 +6,7 @@ ghost use Rattle.hir_raw.specs.Goals.{arg_types};
 ghost use Rattle.hir_raw.specs.WrittenTypes.{type_parts};
 ghost use Rattle.hir_raw.specs.Hidden.{is_alias};
 
+use crate::later::{LaterExpr, LaterPat};
 use hir_types::{
     AdtId, BindingId, BodyId, ConstId, ExprId, FunctionId, IntegerTy, LabelId, List, ModuleId,
     PatId, Text, TraitId, TypeAliasId, TypeRefId, VariantId,
@@ -293,17 +294,15 @@ pub enum RawLiteral {
         digits: Text,
         suffix: Option<IntegerTy>,
     },
-    Other,
 }
 
-/// What a path names.
+/// What a path without a written list of arguments names.
 #[derive(Clone, Copy, Debug)]
 pub enum RawPath {
     Local(BindingId),
     Function(FunctionId),
     /// The constructor of a variant.
     Ctor(VariantId),
-    Other,
 }
 
 /// A statement of a block.
@@ -353,7 +352,8 @@ pub enum RawExpr {
         callee: ExprId,
         args: List<ExprId>,
     },
-    Other,
+    /// An expression of a kind that inference does not carry yet.
+    Later(LaterExpr),
 }
 
 /// A pattern.
@@ -372,7 +372,8 @@ pub enum RawPat {
     },
     Path(RawPath),
     Lit(ExprId),
-    Other,
+    /// A pattern of a kind that inference does not carry yet.
+    Later(LaterPat),
 }
 
 /// How a binding is annotated.

@@ -4,9 +4,9 @@ use Rattle.std.specs.Prelude.{slice_get, option_map}
 use Rattle.std.proofs.lemmas.Bool.{cases_lt}
 use Rattle.std.proofs.lemmas.List.{length-append, length-map}
 use Rattle.std.proofs.lemmas.Option.{slice_get-map}
-use Rattle.hir_schedule.specs.Words.{ExprId, PatId, ExprOrPatId, RawBody, RawExpr, RawPat, Node, the_body, inner, IsNode, expr_parts, pat_parts, body_parts, parts_of_expr, parts_of_pat, parts, position, node_count}
+use Rattle.hir_schedule.specs.Words.{ExprId, PatId, ExprOrPatId, RawBody, RawExpr, RawPat, Node, the_body, inner, IsNode, expr_parts, pat_parts, body_parts, parts_of_expr, parts_of_pat, parts, position, node_count, nodes}
 use Rattle.hir_types.specs.declared.ids.ExprOrPatId.TheVariants as node
-use Rattle.hir_schedule.specs.Own.{nodes, node_lists, positions, graph_of}
+use Rattle.hir_schedule.specs.Own.{node_lists, positions, graph_of}
 
 -- ---- lists
 
@@ -29,12 +29,12 @@ read (x ∷ xs) (suc i) lt = read xs i (omega arith)
 
 pub lists_size : (b : RawBody) → length (node_lists b) ≡ node_count b
 lists_size b =
-    let es : List (List ExprOrPatId) = map (λ e. nodes (expr_parts e)) b.exprs in
+    let es : List (List ExprOrPatId) = map (λ e. nodes (expr_parts b e)) b.exprs in
     let ps : List (List ExprOrPatId) = map (λ p. nodes (pat_parts p)) b.pats in
     let last : List (List ExprOrPatId) = nodes (body_parts b) ∷ [] in
     let a : length ((es ++ ps) ++ last) ≡ length (es ++ ps) + length last = length-append (es ++ ps) last in
     let c : length (es ++ ps) ≡ length es + length ps = length-append es ps in
-    let d : length es ≡ length b.exprs = length-map b.exprs (λ e. nodes (expr_parts e)) in
+    let d : length es ≡ length b.exprs = length-map b.exprs (λ e. nodes (expr_parts b e)) in
     let f : length ps ≡ length b.pats = length-map b.pats (λ p. nodes (pat_parts p)) in
     omega arith
 
@@ -49,27 +49,27 @@ position_inside b (inner (node.PatId p)) h = omega arith
 -- the parts of a node stand at its position
 pub list_at : (b : RawBody) (n : Node) → IsNode b n → slice_get (node_lists b) (position b n) ≡ Some (nodes (parts b n))
 list_at b the_body h =
-    let es : List (List ExprOrPatId) = map (λ e. nodes (expr_parts e)) b.exprs in
+    let es : List (List ExprOrPatId) = map (λ e. nodes (expr_parts b e)) b.exprs in
     let ps : List (List ExprOrPatId) = map (λ p. nodes (pat_parts p)) b.pats in
     let c : length (es ++ ps) ≡ length es + length ps = length-append es ps in
-    let d : length es ≡ length b.exprs = length-map b.exprs (λ e. nodes (expr_parts e)) in
+    let d : length es ≡ length b.exprs = length-map b.exprs (λ e. nodes (expr_parts b e)) in
     let f : length ps ≡ length b.pats = length-map b.pats (λ p. nodes (pat_parts p)) in
     slice_get_right (es ++ ps) (nodes (body_parts b) ∷ []) (position b the_body) 0 (omega arith)
 list_at b (inner (node.ExprId e)) h =
-    let es : List (List ExprOrPatId) = map (λ e. nodes (expr_parts e)) b.exprs in
+    let es : List (List ExprOrPatId) = map (λ e. nodes (expr_parts b e)) b.exprs in
     let ps : List (List ExprOrPatId) = map (λ p. nodes (pat_parts p)) b.pats in
     let last : List (List ExprOrPatId) = nodes (body_parts b) ∷ [] in
     let c : length (es ++ ps) ≡ length es + length ps = length-append es ps in
-    let d : length es ≡ length b.exprs = length-map b.exprs (λ e. nodes (expr_parts e)) in
+    let d : length es ≡ length b.exprs = length-map b.exprs (λ e. nodes (expr_parts b e)) in
     let x : (x : RawExpr) × (slice_get b.exprs e.0 ≡ Some x) = read b.exprs e.0 h in
-    slice_get_left (es ++ ps) last e.0 (omega arith) ∙ (slice_get_left es ps e.0 (omega arith) ∙ (slice_get-map (λ e. nodes (expr_parts e)) b.exprs e.0
-    ∙ (ap (λ (o : Option RawExpr). option_map (λ e. nodes (expr_parts e)) o) x.1 ∙ ap (λ (o : Option RawExpr). Some (nodes (parts_of_expr o))) (sym x.1))))
+    slice_get_left (es ++ ps) last e.0 (omega arith) ∙ (slice_get_left es ps e.0 (omega arith) ∙ (slice_get-map (λ e. nodes (expr_parts b e)) b.exprs e.0
+    ∙ (ap (λ (o : Option RawExpr). option_map (λ e. nodes (expr_parts b e)) o) x.1 ∙ ap (λ (o : Option RawExpr). Some (nodes (parts_of_expr b o))) (sym x.1))))
 list_at b (inner (node.PatId p)) h =
-    let es : List (List ExprOrPatId) = map (λ e. nodes (expr_parts e)) b.exprs in
+    let es : List (List ExprOrPatId) = map (λ e. nodes (expr_parts b e)) b.exprs in
     let ps : List (List ExprOrPatId) = map (λ p. nodes (pat_parts p)) b.pats in
     let last : List (List ExprOrPatId) = nodes (body_parts b) ∷ [] in
     let c : length (es ++ ps) ≡ length es + length ps = length-append es ps in
-    let d : length es ≡ length b.exprs = length-map b.exprs (λ e. nodes (expr_parts e)) in
+    let d : length es ≡ length b.exprs = length-map b.exprs (λ e. nodes (expr_parts b e)) in
     let f : length ps ≡ length b.pats = length-map b.pats (λ p. nodes (pat_parts p)) in
     let x : (x : RawPat) × (slice_get b.pats p.0 ≡ Some x) = read b.pats p.0 h in
     slice_get_left (es ++ ps) last (length b.exprs + p.0) (omega arith) ∙ (slice_get_right es ps (length b.exprs + p.0) p.0 (omega arith) ∙ (slice_get-map (λ p. nodes (pat_parts p)) b.pats p.0

@@ -1,10 +1,10 @@
 -- The nodes that something is made of, list by list.
-use Rattle.std.proofs.Common.{◌≡◌, ◌+◌, ◌<◌, ℕ, suc, List, [], ◌∷◌, ◌++◌, length, map, get_or, take, Option, Some, None, refl, sym, ap, ◌∙◌}
+use Rattle.std.proofs.Common.{◌≡◌, ◌+◌, ◌<◌, ℕ, suc, Bool, true, false, List, [], ◌∷◌, ◌++◌, length, map, get_or, take, Option, Some, None, refl, sym, ap, ◌∙◌}
 use Rattle.std.proofs.lemmas.List.{append_assoc, map-append, take_more}
-use Rattle.hir_schedule.specs.Words.{ExprId, PatId, ExprOrPatId, LabelId, RawBody, RawArm, RawPat, RawExpr, RawStmt, Role, Part, maybe_part, expr_parts, pat_parts, tail, element, argument, guard, arm, stmt_parts, stmts_parts, exprs_from, arm_patterns, arm_parts, arms_parts, subpatterns, param_parts, body_parts, expr_part, root}
+use Rattle.hir_schedule.specs.Words.{ExprId, PatId, ExprOrPatId, LabelId, RawBody, RawArm, RawPat, LaterExpr, LaterPat, RawExpr, RawStmt, is_closure, is_wanted, only_if, arguments_from, arguments, later_parts, later_nodes, later_pat_nodes, Role, Part, maybe_part, expr_parts, pat_parts, tail, element, argument, guard, arm, stmt_parts, stmts_parts, exprs_from, arm_patterns, arm_parts, arms_parts, subpatterns, param_parts, body_parts, expr_part, root, nodes}
 use Rattle.hir_types.specs.declared.ids.ExprOrPatId.TheVariants as node
+use Rattle.hir_raw.specs.declared.raw.RawPat.TheVariants as pat
 use Rattle.hir_raw.specs.declared.raw.RawExpr.TheVariants as expr
-use Rattle.hir_schedule.specs.Own.{nodes}
 
 pub nodes-append : (ps qs : List Part) → nodes (ps ++ qs) ≡ nodes ps ++ nodes qs
 nodes-append ps qs = map-append (λ (p : Part). p.node) ps qs
@@ -73,9 +73,9 @@ arms_pushed old now new xs i d lt before pushed =
     pushed ∙ (ap (λ (ns : List ExprOrPatId). ns ++ nodes (arm_parts 0 a)) before
     ∙ (append_assoc old (nodes (arms_parts 0 (take i xs))) (nodes (arm_parts 0 a)) ∙ ap (λ (ns : List ExprOrPatId). old ++ ns) (sym more)))
 
-pub match_pushed : (e : ExprId) (arms : List RawArm) (old first pats new : List ExprOrPatId) → first ≡ old ++ node.ExprId e ∷ [] → pats ≡ first ++ map (λ a. node.PatId a.pat) arms
-    → new ≡ pats ++ nodes (arms_parts 0 arms) → new ≡ old ++ nodes (expr_parts (expr.Match e arms))
-match_pushed e arms old first pats new one two three =
+pub match_pushed : (b : RawBody) (e : ExprId) (arms : List RawArm) (old first pats new : List ExprOrPatId) → first ≡ old ++ node.ExprId e ∷ [] → pats ≡ first ++ map (λ a. node.PatId a.pat) arms
+    → new ≡ pats ++ nodes (arms_parts 0 arms) → new ≡ old ++ nodes (expr_parts b (expr.Match e arms))
+match_pushed b e arms old first pats new one two three =
     let ps : List ExprOrPatId = nodes (arm_patterns e 0 arms) in
     let qs : List ExprOrPatId = nodes (arms_parts 0 arms) in
     let before : pats ≡ (old ++ node.ExprId e ∷ []) ++ ps =
@@ -84,14 +84,51 @@ match_pushed e arms old first pats new one two three =
     ∙ (append_assoc (old ++ node.ExprId e ∷ []) ps qs ∙ (append_assoc old (node.ExprId e ∷ []) (ps ++ qs)
     ∙ ap (λ (ns : List ExprOrPatId). old ++ node.ExprId e ∷ ns) (sym (nodes-append (arm_patterns e 0 arms) (arms_parts 0 arms))))))
 
-pub call_pushed : (f : ExprId) (args : List ExprId) (old first new : List ExprOrPatId) → first ≡ old ++ node.ExprId f ∷ [] → new ≡ first ++ map (λ e. node.ExprId e) args
-    → new ≡ old ++ nodes (expr_parts (expr.Call f args))
-call_pushed f args old first new one two =
-    two ∙ (ap (λ (ns : List ExprOrPatId). ns ++ map (λ e. node.ExprId e) args) one
-    ∙ (append_assoc old (node.ExprId f ∷ []) (map (λ e. node.ExprId e) args) ∙ ap (λ (ns : List ExprOrPatId). old ++ node.ExprId f ∷ ns) (sym (nodes-exprs argument 0 args))))
+pub call_pushed : (b : RawBody) (f : ExprId) (args : List ExprId) (old first new : List ExprOrPatId) → first ≡ old ++ node.ExprId f ∷ [] → new ≡ first ++ nodes (arguments b args)
+    → new ≡ old ++ nodes (expr_parts b (expr.Call f args))
+call_pushed b f args old first new one two =
+    two ∙ (ap (λ (ns : List ExprOrPatId). ns ++ nodes (arguments b args)) one ∙ append_assoc old (node.ExprId f ∷ []) (nodes (arguments b args)))
 
-pub kind_pushed : (x y : RawExpr) (new all : List ExprOrPatId) → x ≡ y → new ≡ [] → all ≡ new ++ nodes (expr_parts y) → all ≡ nodes (expr_parts x)
-kind_pushed x y new all is none pushed = pushed ∙ (ap (λ (ns : List ExprOrPatId). ns ++ nodes (expr_parts y)) none ∙ ap (λ (z : RawExpr). nodes (expr_parts z)) (sym is))
+-- the parts of a kind that is not carried yet
+pub nodes-later : (i : ℕ) (xs : List ExprOrPatId) → nodes (later_parts i xs) ≡ xs
+nodes-later i [] = refl
+nodes-later i (x ∷ xs) = ap (λ (ns : List ExprOrPatId). x ∷ ns) (nodes-later (suc i) xs)
+
+arguments_from-append : (b : RawBody) (c : Bool) (i j : ℕ) (es : List ExprId) (e : ExprId)
+    → nodes (arguments_from b c i (es ++ e ∷ [])) ≡ nodes (arguments_from b c i es) ++ nodes (only_if (is_wanted c (is_closure b e)) (expr_part (argument j) e))
+arguments_from-append b c i j [] e = ap nodes (nil_right (only_if (is_wanted c (is_closure b e)) (expr_part (argument i) e))) ∙ one_same (is_wanted c (is_closure b e))
+  where
+    one_same : (b : Bool) → nodes (only_if b (expr_part (argument i) e)) ≡ nodes (only_if b (expr_part (argument j) e))
+    one_same true = refl
+    one_same false = refl
+arguments_from-append b c i j (x ∷ es) e =
+    let own : List Part = only_if (is_wanted c (is_closure b x)) (expr_part (argument i) x) in
+    nodes-append own (arguments_from b c (suc i) (es ++ e ∷ []))
+    ∙ (ap (λ (ns : List ExprOrPatId). nodes own ++ ns) (arguments_from-append b c (suc i) j es e)
+    ∙ (sym (append_assoc (nodes own) (nodes (arguments_from b c (suc i) es)) (nodes (only_if (is_wanted c (is_closure b e)) (expr_part (argument j) e))))
+    ∙ ap (λ (ns : List ExprOrPatId). ns ++ nodes (only_if (is_wanted c (is_closure b e)) (expr_part (argument j) e))) (sym (nodes-append own (arguments_from b c (suc i) es)))))
+
+-- one more argument
+pub arguments_pushed : (b : RawBody) (c : Bool) (old now new : List ExprOrPatId) (xs : List ExprId) (i : ℕ) (d : ExprId) → i < length xs
+    → now ≡ old ++ nodes (arguments_from b c 0 (take i xs)) → new ≡ now ++ nodes (only_if (is_wanted c (is_closure b (get_or xs i d))) (expr_part (argument 0) (get_or xs i d)))
+    → new ≡ old ++ nodes (arguments_from b c 0 (take (i + 1) xs))
+arguments_pushed b c old now new xs i d lt before pushed =
+    let e : ExprId = get_or xs i d in
+    let own : List ExprOrPatId = nodes (only_if (is_wanted c (is_closure b e)) (expr_part (argument 0) e)) in
+    let more : nodes (arguments_from b c 0 (take (i + 1) xs)) ≡ nodes (arguments_from b c 0 (take i xs)) ++ own =
+    ap (λ (ys : List ExprId). nodes (arguments_from b c 0 ys)) (take_more xs i d lt) ∙ arguments_from-append b c 0 0 (take i xs) e in
+    pushed ∙ (ap (λ (ns : List ExprOrPatId). ns ++ own) before ∙ (append_assoc old (nodes (arguments_from b c 0 (take i xs))) own ∙ ap (λ (ns : List ExprOrPatId). old ++ ns) (sym more)))
+
+pub kind_pushed : (b : RawBody) (x y : RawExpr) (new all : List ExprOrPatId) → x ≡ y → new ≡ [] → all ≡ new ++ nodes (expr_parts b y) → all ≡ nodes (expr_parts b x)
+kind_pushed b x y new all is none pushed = pushed ∙ (ap (λ (ns : List ExprOrPatId). ns ++ nodes (expr_parts b y)) none ∙ ap (λ (z : RawExpr). nodes (expr_parts b z)) (sym is))
+
+pub later_pushed : (b : RawBody) (x : RawExpr) (y : LaterExpr) (new all : List ExprOrPatId) → x ≡ expr.Later y → new ≡ [] → all ≡ new ++ later_nodes b y → all ≡ nodes (expr_parts b x)
+later_pushed b x y new all is none pushed =
+    pushed ∙ (ap (λ (ns : List ExprOrPatId). ns ++ later_nodes b y) none ∙ (sym (nodes-later 0 (later_nodes b y)) ∙ ap (λ (z : RawExpr). nodes (expr_parts b z)) (sym is)))
+
+pub later_pat_pushed : (x : RawPat) (y : LaterPat) (new all : List ExprOrPatId) → x ≡ pat.Later y → new ≡ [] → all ≡ new ++ later_pat_nodes y → all ≡ nodes (pat_parts x)
+later_pat_pushed x y new all is none pushed =
+    pushed ∙ (ap (λ (ns : List ExprOrPatId). ns ++ later_pat_nodes y) none ∙ (sym (nodes-later 0 (later_pat_nodes y)) ∙ ap (λ (z : RawPat). nodes (pat_parts z)) (sym is)))
 
 -- a pattern whose parts are these patterns
 pub pats_pushed : (x y : RawPat) (ps : List PatId) (new all : List ExprOrPatId) (ds : List PatId) → x ≡ y → pat_parts y ≡ subpatterns 0 ps → new ≡ [] → ds ≡ ps → all ≡ new ++ map (λ p. node.PatId p) ds → all ≡ nodes (pat_parts x)
@@ -107,17 +144,17 @@ body_pushed b new pats all ps none same pushed last =
     last ∙ (ap (λ (ns : List ExprOrPatId). ns ++ node.ExprId b.root ∷ []) (start ∙ sym (nodes-parameters 0 b.params))
     ∙ sym (nodes-append (param_parts 0 b.params) (expr_part root b.root ∷ [])))
 
-pub block_pushed : (x : RawExpr) (label : Option LabelId) (stmts : List RawStmt) (last : Option ExprId) (new front all : List ExprOrPatId) (ss : List RawStmt)
-    → x ≡ expr.Block label stmts last → new ≡ [] → ss ≡ stmts → front ≡ new ++ nodes (stmts_parts ss) → all ≡ front ++ nodes (maybe_part tail last) → all ≡ nodes (expr_parts x)
-block_pushed x label stmts last new front all ss is none same pushed ended =
+pub block_pushed : (b : RawBody) (x : RawExpr) (label : Option LabelId) (stmts : List RawStmt) (last : Option ExprId) (new front all : List ExprOrPatId) (ss : List RawStmt)
+    → x ≡ expr.Block label stmts last → new ≡ [] → ss ≡ stmts → front ≡ new ++ nodes (stmts_parts ss) → all ≡ front ++ nodes (maybe_part tail last) → all ≡ nodes (expr_parts b x)
+block_pushed b x label stmts last new front all ss is none same pushed ended =
     let start : front ≡ nodes (stmts_parts stmts) =
     pushed ∙ (ap (λ (ns : List ExprOrPatId). ns ++ nodes (stmts_parts ss)) none ∙ ap (λ (rs : List RawStmt). nodes (stmts_parts rs)) same) in
     ended ∙ (ap (λ (ns : List ExprOrPatId). ns ++ nodes (maybe_part tail last)) start
-    ∙ (sym (nodes-append (stmts_parts stmts) (maybe_part tail last)) ∙ ap (λ (y : RawExpr). nodes (expr_parts y)) (sym is)))
+    ∙ (sym (nodes-append (stmts_parts stmts) (maybe_part tail last)) ∙ ap (λ (y : RawExpr). nodes (expr_parts b y)) (sym is)))
 
-pub tuple_pushed : (x : RawExpr) (es : List ExprId) (new all : List ExprOrPatId) (ds : List ExprId)
-    → x ≡ expr.Tuple es → new ≡ [] → ds ≡ es → all ≡ new ++ map (λ e. node.ExprId e) ds → all ≡ nodes (expr_parts x)
-tuple_pushed x es new all ds is none same pushed =
+pub tuple_pushed : (b : RawBody) (x : RawExpr) (es : List ExprId) (new all : List ExprOrPatId) (ds : List ExprId)
+    → x ≡ expr.Tuple es → new ≡ [] → ds ≡ es → all ≡ new ++ map (λ e. node.ExprId e) ds → all ≡ nodes (expr_parts b x)
+tuple_pushed b x es new all ds is none same pushed =
     let start : all ≡ map (λ e. node.ExprId e) es =
     pushed ∙ (ap (λ (ns : List ExprOrPatId). ns ++ map (λ e. node.ExprId e) ds) none ∙ ap (λ (rs : List ExprId). map (λ e. node.ExprId e) rs) same) in
-    start ∙ (sym (nodes-exprs element 0 es) ∙ ap (λ (y : RawExpr). nodes (expr_parts y)) (sym is))
+    start ∙ (sym (nodes-exprs element 0 es) ∙ ap (λ (y : RawExpr). nodes (expr_parts b y)) (sym is))

@@ -5,9 +5,10 @@ use Rattle.std.specs.Option.{option_and_then}
 use Rattle.std.proofs.lemmas.Bool.{cases_lt}
 use Rattle.std.proofs.lemmas.List.{get_or_past}
 use Rattle.std.proofs.lemmas.Option.{slice_get-map, get_or_from_slice_get, option_and_then_some}
-use Rattle.hir_schedule.specs.Words.{ExprOrPatId, RawBody, Schedule, IsLow, Part, Node, the_body, inner, IsInBody, IsNode, parts, part_at, follow, HasOneWay, PartsFit, position, node_count, start, end, after, Fits, IsSchedule, AreDepths}
+use Rattle.hir_schedule.specs.Words.{ExprOrPatId, RawBody, Schedule, IsLow, Part, Node, the_body, inner, IsInBody, IsNode, parts, part_at, follow, HasOneWay, PartsFit, position, node_count, start, end, after, Fits, IsSchedule, AreDepths, nodes}
 use Rattle.hir_raw.specs.Order.{IsTree}
-use Rattle.hir_schedule.specs.Own.{kids_of, Edge, KidsFit, leads, OneWay, IsTreeGraph, number_after, Follow, IsNumbering, nodes, node_lists, positions, graph_of}
+use Rattle.hir_schedule.specs.Own.{kids_of, Edge, KidsFit, leads, OneWay, IsTreeGraph, number_after, Follow, IsNumbering}
+use Rattle.hir_schedule.specs.Own.{node_lists, positions, graph_of}
 use Rattle.hir_schedule.proofs.Words.{depth_is_steps, way_to, way_to_node}
 use Rattle.hir_schedule.proofs.Bodies.{lists_size, graph_size, list_at, position_inside, NodeAt, node_at, one_position}
 

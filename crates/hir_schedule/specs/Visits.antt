@@ -14,7 +14,16 @@ pub record Visited : Type 0 where
   pub clock : ℕ
 
 abbrev pub visited_by : Walk → Visited
-visited_by w = record { seen = w.seen.items; next = w.next.items; starts = w.starts; ends = w.ends; depths = w.depths; stack = w.stack.items; clock = w.clock }
+visited_by w = record {
+  seen = w.seen.items;
+  next = w.next.items;
+  starts = w.starts;
+  ends = w.ends;
+  depths = w.depths;
+  stack =
+      w.stack.items;
+  clock = w.clock;
+}
 
 abbrev pub is_seen : Visited → ℕ → Bool
 is_seen m n = get_or m.seen n false
@@ -28,7 +37,15 @@ unseen seen = sum_by (λ b. if b then 0 else 1) seen
 
 -- before the walk through n nodes
 abbrev pub blank : ℕ → Visited
-blank n = record { seen = replicate n false; next = replicate n 0; starts = replicate n 0; ends = replicate n 0; depths = replicate n 0; stack = []; clock = 0 }
+blank n = record {
+  seen = replicate n false;
+  next = replicate n 0;
+  starts = replicate n 0;
+  ends = replicate n 0;
+  depths = replicate n 0;
+  stack = [];
+  clock = 0;
+}
 
 -- a node is entered
 abbrev pub entered : Visited → ℕ → Visited

@@ -2,6 +2,7 @@
 #![tactic(auto)]
 
 mod graph;
+mod later_parts;
 mod parts;
 mod schedule;
 

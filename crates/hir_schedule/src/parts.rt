@@ -1,10 +1,10 @@
 //! What an expression, a pattern or a body is made of, in the order of the walk.
 ghost use Rattle.std.specs.Prelude.{◌≡◌, ◌++◌, ℕ, map, IfOk, OnOk};
 ghost use Rattle.hir_types.specs.declared.ids.ExprOrPatId.TheVariants.{ExprId as expr_node, PatId as pat_node};
-ghost use Rattle.hir_schedule.specs.Words.{Role, maybe_part, stmt_parts, stmts_parts, arm_parts, arms_parts, expr_parts, pat_parts, body_parts};
-ghost use Rattle.hir_schedule.specs.Own.{nodes};
+ghost use Rattle.hir_schedule.specs.Words.{Role, maybe_part, stmt_parts, stmts_parts, arm_parts, arms_parts, expr_parts, pat_parts, body_parts, bound_sub, nodes, RawBody};
 ghost use Rattle.hir_raw.specs.declared.raw.RawExpr.TheVariants.{If, Match, Call};
 
+use crate::later_parts::{push_arguments, push_later, push_later_pat};
 use hir_raw::{RawArm, RawBody, RawExpr, RawPat, RawStmt};
 use hir_types::{ExprId, ExprOrPatId, PatId};
 use std::alloc::{AllocError, Global};
@@ -38,7 +38,7 @@ fn push_stmt(out: &mut Vec<ExprOrPatId>, stmt: &RawStmt) -> Result<(), AllocErro
     Ok(())
 }
 
-fn push_stmts(out: &mut Vec<ExprOrPatId>, stmts: &[RawStmt]) -> Result<(), AllocError>
+pub fn push_stmts(out: &mut Vec<ExprOrPatId>, stmts: &[RawStmt]) -> Result<(), AllocError>
     ensures { OnOk result (out.new.items ≡ out.old.items ++ nodes (stmts_parts stmts.now)) }
 {
     for stmt in stmts {
@@ -98,8 +98,8 @@ fn push_if(
     then_branch: ExprId,
     else_branch: Option<ExprId>,
 ) -> Result<(), AllocError>
-    ensures { OnOk result (out.new.items ≡ out.old.items
-        ++ nodes (expr_parts (If condition then_branch else_branch))) }
+    ensures { OnOk result ((b : RawBody) → out.new.items ≡ out.old.items
+        ++ nodes (expr_parts b (If condition then_branch else_branch))) }
 {
     out.push(ExprOrPatId::ExprId(condition))?;
     out.push(ExprOrPatId::ExprId(then_branch))?;
@@ -112,8 +112,8 @@ fn push_match(
     scrutinee: ExprId,
     arms: &[RawArm],
 ) -> Result<(), AllocError>
-    ensures { OnOk result (out.new.items ≡ out.old.items
-        ++ nodes (expr_parts (Match scrutinee arms.now))) }
+    ensures { OnOk result ((b : RawBody) → out.new.items ≡ out.old.items
+        ++ nodes (expr_parts b (Match scrutinee arms.now))) }
 {
     out.push(ExprOrPatId::ExprId(scrutinee))?;
     push_arm_pats(out, arms)?;
@@ -121,18 +121,36 @@ fn push_match(
     Ok(())
 }
 
-fn push_call(out: &mut Vec<ExprOrPatId>, callee: ExprId, args: &[ExprId]) -> Result<(), AllocError>
+fn push_call(
+    out: &mut Vec<ExprOrPatId>,
+    body: &RawBody,
+    callee: ExprId,
+    args: &[ExprId],
+) -> Result<(), AllocError>
     ensures { OnOk result (out.new.items ≡ out.old.items
-        ++ nodes (expr_parts (Call callee args.now))) }
+        ++ nodes (expr_parts body.now (Call callee args.now))) }
 {
     out.push(ExprOrPatId::ExprId(callee))?;
-    push_exprs(out, args)?;
+    push_arguments(out, body, args)?;
     Ok(())
 }
 
-/// The parts of an expression.
-pub fn nodes_of_expr(alloc: Global, expr: &RawExpr) -> Result<Vec<ExprOrPatId>, AllocError>
-    ensures { IfOk result (λ v. v.items ≡ nodes (expr_parts expr.now)) }
+fn push_bound(out: &mut Vec<ExprOrPatId>, subpat: Option<PatId>) -> Result<(), AllocError>
+    ensures { OnOk result (out.new.items ≡ out.old.items ++ nodes (bound_sub subpat)) }
+{
+    if let Some(pat) = subpat {
+        out.push(ExprOrPatId::PatId(pat))?;
+    }
+    Ok(())
+}
+
+/// The parts of an expression of this body.
+pub fn nodes_of_expr(
+    alloc: Global,
+    body: &RawBody,
+    expr: &RawExpr,
+) -> Result<Vec<ExprOrPatId>, AllocError>
+    ensures { IfOk result (λ v. v.items ≡ nodes (expr_parts body.now expr.now)) }
 {
     let mut out = Vec::new(alloc);
     match expr {
@@ -153,8 +171,8 @@ pub fn nodes_of_expr(alloc: Global, expr: &RawExpr) -> Result<Vec<ExprOrPatId>, 
             else_branch,
         } => push_if(&mut out, *condition, *then_branch, *else_branch)?,
         RawExpr::Match { scrutinee, arms } => push_match(&mut out, *scrutinee, arms.as_slice())?,
-        RawExpr::Call { callee, args } => push_call(&mut out, *callee, args.as_slice())?,
-        RawExpr::Other => {}
+        RawExpr::Call { callee, args } => push_call(&mut out, body, *callee, args.as_slice())?,
+        RawExpr::Later(expr) => push_later(&mut out, body, expr)?,
     }
     Ok(out)
 }
@@ -166,12 +184,12 @@ pub fn nodes_of_pat(alloc: Global, pat: &RawPat) -> Result<Vec<ExprOrPatId>, All
     let mut out = Vec::new(alloc);
     match pat {
         RawPat::Wild => {}
-        RawPat::Bind { id: _, subpat: _ } => {}
+        RawPat::Bind { id: _, subpat } => push_bound(&mut out, *subpat)?,
         RawPat::Tuple(pats) => push_pats(&mut out, pats.as_slice())?,
         RawPat::TupleStruct { variant: _, args } => push_pats(&mut out, args.as_slice())?,
         RawPat::Path(_) => {}
         RawPat::Lit(expr) => out.push(ExprOrPatId::ExprId(*expr))?,
-        RawPat::Other => {}
+        RawPat::Later(pat) => push_later_pat(&mut out, pat)?,
     }
     Ok(out)
 }

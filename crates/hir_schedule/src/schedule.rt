@@ -1,8 +1,8 @@
 //! The order in which the walk comes to the nodes of a body.
 ghost use Rattle.std.specs.Prelude.{◌≡◌, ◌<◌, ◌^◌, ◌++◌, ◌↔◌, ℕ, map, slice_get, slice_index, EachIndex, ◌≤◌, Some, IfOk, IsTrue, OnOk, MatchOption};
-ghost use Rattle.hir_schedule.specs.Words.{node_count, expr_parts, pat_parts, IsInBody, PartsFit, IsLow, IsSchedule, AreDepths, ExprOrPatId};
+ghost use Rattle.hir_schedule.specs.Words.{node_count, expr_parts, pat_parts, IsInBody, PartsFit, IsLow, IsSchedule, AreDepths, ExprOrPatId, nodes};
 ghost use Rattle.hir_raw.specs.Order.{IsTree};
-ghost use Rattle.hir_schedule.specs.Own.{nodes, node_lists, positions, graph_of};
+ghost use Rattle.hir_schedule.specs.Own.{node_lists, positions, graph_of};
 
 use crate::graph::number_graph;
 use crate::parts::{nodes_of_body, nodes_of_expr, nodes_of_pat};
@@ -13,12 +13,13 @@ use std::alloc::{AllocError, Global};
 fn push_expr_lists(
     alloc: Global,
     lists: &mut List<List<ExprOrPatId>>,
+    body: &RawBody,
     exprs: &[RawExpr],
 ) -> Result<(), AllocError>
-    ensures { OnOk result (lists.new ≡ lists.old ++ map (λ e. nodes (expr_parts e)) exprs.now) }
+    ensures { OnOk result (lists.new ≡ lists.old ++ map (λ e. nodes (expr_parts body.now e)) exprs.now) }
 {
     for expr in exprs {
-        let nodes = nodes_of_expr(alloc, expr)?;
+        let nodes = nodes_of_expr(alloc, body, expr)?;
         lists.push(List::from_vec(nodes))?;
     }
     Ok(())
@@ -43,7 +44,7 @@ fn lists_of_nodes(alloc: Global, body: &RawBody) -> Result<List<List<ExprOrPatId
     ensures { IfOk result (λ lists. lists ≡ node_lists body.now) }
 {
     let mut lists = List::new(alloc);
-    push_expr_lists(alloc, &mut lists, body.exprs.as_slice())?;
+    push_expr_lists(alloc, &mut lists, body, body.exprs.as_slice())?;
     push_pat_lists(alloc, &mut lists, body.pats.as_slice())?;
     let nodes = nodes_of_body(alloc, body)?;
     lists.push(List::from_vec(nodes))?;

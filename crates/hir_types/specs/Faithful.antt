@@ -194,7 +194,9 @@ arg_step_read (GenericArg-F.Ty t) = tt
 arg_step_read (GenericArg-F.Const c) = tt
 
 arg_is : (x : GenericArg) → IsArg (read (arg_term x)).part
-arg_is x = subst (λ u. IsArg (read u).part) (sym (fold_out-GenericArg Term Term (List Term) (List Term) arg_step ty_step bound_step trait_step x)) (arg_step_read (in_arg terms (out-GenericArg x)))
+arg_is x = subst (λ u. IsArg (read u).part)
+    (sym (fold_out-GenericArg Term Term (List Term) (List Term) arg_step ty_step bound_step trait_step x))
+    (arg_step_read (in_arg terms (out-GenericArg x)))
 
 arg_leads : (p : ReadPart) (ps : List ReadPart) → IsArg p → leading_args (p ∷ ps) ≡ arg_of p ∷ leading_args ps
 arg_leads (type_of t) ps h = refl
@@ -218,7 +220,8 @@ types_read : (ts : List Ty) → types (parts_of (map type_part (map term ts))) �
 types_read [] = refl
 types_read (t ∷ ts) = ap (◌∷◌ (reading.ty t)) (types_read ts)
 
-types_read_before : (ts : List Ty) (t : Ty) → types (parts_of (map type_part (map term ts) ++ type_part (term t) ∷ [])) ≡ map reading.ty ts ++ reading.ty t ∷ []
+types_read_before : (ts : List Ty) (t : Ty)
+    → types (parts_of (map type_part (map term ts) ++ type_part (term t) ∷ [])) ≡ map reading.ty ts ++ reading.ty t ∷ []
 types_read_before [] t = refl
 types_read_before (u ∷ us) t = ap (◌∷◌ (reading.ty u)) (types_read_before us t)
 
@@ -232,7 +235,8 @@ last_is [] t = refl
 last_is (u ∷ []) t = refl
 last_is (u ∷ v ∷ vs) t = last_is (v ∷ vs) t
 
-inputs_read : (ts : List Ty) (t : Ty) → all_but_last (types (parts_of (map type_part (map term ts) ++ type_part (term t) ∷ []))) ≡ map reading.ty ts
+inputs_read : (ts : List Ty) (t : Ty)
+    → all_but_last (types (parts_of (map type_part (map term ts) ++ type_part (term t) ∷ []))) ≡ map reading.ty ts
 inputs_read ts t = ap all_but_last (types_read_before ts t) ∙ all_but_last_is (map reading.ty ts) (reading.ty t)
 
 output_read : (ts : List Ty) (t : Ty) → last (types (parts_of (map type_part (map term ts) ++ type_part (term t) ∷ []))) ≡ reading.ty t
@@ -276,32 +280,47 @@ autos_read : (bs : List AliasBound) (ids : List TraitId) → autos_of (parts_of 
 autos_read [] ids = autos_read_alone ids
 autos_read (b ∷ bs) ids = autos_read bs ids
 
-args_read_before : (xs : List GenericArg) (us vs : List Term) → leading_args (parts_of (us ++ vs)) ≡ [] → leading_args (parts_of (map arg_term xs ++ us ++ vs)) ≡ map reading.arg xs
+args_read_before : (xs : List GenericArg) (us vs : List Term) → leading_args (parts_of (us ++ vs)) ≡ []
+    → leading_args (parts_of (map arg_term xs ++ us ++ vs)) ≡ map reading.arg xs
 args_read_before [] us vs e = e
-args_read_before (x ∷ xs) us vs e = arg_leads (read (arg_term x)).part (parts_of (map arg_term xs ++ us ++ vs)) (arg_is x) ∙ ap (◌∷◌ (reading.arg x)) (args_read_before xs us vs e)
+args_read_before (x ∷ xs) us vs e =
+    arg_leads (read (arg_term x)).part (parts_of (map arg_term xs ++ us ++ vs)) (arg_is x) ∙ ap (◌∷◌ (reading.arg x))
+    (args_read_before xs us vs e)
 
-bounds_behind_args : (xs : List GenericArg) (us vs : List Term) → bounds_of (parts_of (map arg_term xs ++ us ++ vs)) ≡ bounds_of (parts_of (us ++ vs))
+bounds_behind_args : (xs : List GenericArg) (us vs : List Term)
+    → bounds_of (parts_of (map arg_term xs ++ us ++ vs)) ≡ bounds_of (parts_of (us ++ vs))
 bounds_behind_args [] us vs = refl
-bounds_behind_args (x ∷ xs) us vs = no_bound_before (read (arg_term x)).part (parts_of (map arg_term xs ++ us ++ vs)) (bounds_of (parts_of (map arg_term xs ++ us ++ vs))) (arg_is x) ∙ bounds_behind_args xs us vs
+bounds_behind_args (x ∷ xs) us vs =
+    no_bound_before (read (arg_term x)).part (parts_of (map arg_term xs ++ us ++ vs)) (bounds_of (parts_of (map arg_term xs ++ us ++ vs)))
+    (arg_is x) ∙ bounds_behind_args xs us vs
 
-autos_behind_args : (xs : List GenericArg) (us vs : List Term) → autos_of (parts_of (map arg_term xs ++ us ++ vs)) ≡ autos_of (parts_of (us ++ vs))
+autos_behind_args : (xs : List GenericArg) (us vs : List Term)
+    → autos_of (parts_of (map arg_term xs ++ us ++ vs)) ≡ autos_of (parts_of (us ++ vs))
 autos_behind_args [] us vs = refl
-autos_behind_args (x ∷ xs) us vs = no_auto_before (read (arg_term x)).part (autos_of (parts_of (map arg_term xs ++ us ++ vs))) (arg_is x) ∙ autos_behind_args xs us vs
+autos_behind_args (x ∷ xs) us vs =
+    no_auto_before (read (arg_term x)).part (autos_of (parts_of (map arg_term xs ++ us ++ vs))) (arg_is x) ∙ autos_behind_args xs us vs
 
 abbrev dynamic_term : List Term → List Term → List TraitId → Term
 dynamic_term us vs ids = node head.Dynamic (us ++ vs ++ auto_parts ids)
 
-dynamic_read_none : (bs : List AliasBound) (ids : List TraitId) → type_of_term (dynamic_term (leaf head.NoPrincipal ∷ []) (flat_map (λ us. us) (map bound_parts bs)) ids) ≡ ty.Dynamic None (map reading.bound bs) ids
-dynamic_read_none bs ids = ap (λ vs. type_of_term (dynamic_term (leaf head.NoPrincipal ∷ []) vs ids)) (plain bs) ∙ (λ i. ty.Dynamic None (bounds_read bs ids i) (autos_read bs ids i))
+dynamic_read_none : (bs : List AliasBound) (ids : List TraitId)
+    → type_of_term (dynamic_term (leaf head.NoPrincipal ∷ []) (flat_map (λ us. us) (map bound_parts bs)) ids)
+    ≡ ty.Dynamic None (map reading.bound bs) ids
+dynamic_read_none bs ids = ap (λ vs. type_of_term (dynamic_term (leaf head.NoPrincipal ∷ []) vs ids)) (plain bs) ∙
+    (λ i. ty.Dynamic None (bounds_read bs ids i) (autos_read bs ids i))
 
-dynamic_read_some : (r : TraitRef) (bs : List AliasBound) (ids : List TraitId) → type_of_term (dynamic_term (trait_parts r) (flat_map (λ us. us) (map bound_parts bs)) ids) ≡ ty.Dynamic (Some (reading.trait r)) (map reading.bound bs) ids
+dynamic_read_some : (r : TraitRef) (bs : List AliasBound) (ids : List TraitId)
+    → type_of_term (dynamic_term (trait_parts r) (flat_map (λ us. us) (map bound_parts bs)) ids)
+    ≡ ty.Dynamic (Some (reading.trait r)) (map reading.bound bs) ids
 dynamic_read_some r bs ids =
     (λ i. type_of_term (dynamic_term (trait_parts_is r i) (plain bs i) ids))
-    ∙ (λ i. ty.Dynamic (Some (record { id = r.id; args = args_read_before r.args (plain_bounds bs) (auto_parts ids) (bounds_lead_none bs ids) i }))
+    ∙ (λ i. ty.Dynamic (Some (record
+    { id = r.id; args = args_read_before r.args (plain_bounds bs) (auto_parts ids) (bounds_lead_none bs ids) i }))
     ((bounds_behind_args r.args (plain_bounds bs) (auto_parts ids) ∙ bounds_read bs ids) i)
     ((autos_behind_args r.args (plain_bounds bs) (auto_parts ids) ∙ autos_read bs ids) i))
 
-arg_read_at : (x : GenericArg-F GenericArg Ty AliasBound TraitRef) → arg_of (read (arg_step (in_arg terms x))).part ≡ roll-GenericArg (in_arg reading x)
+arg_read_at : (x : GenericArg-F GenericArg Ty AliasBound TraitRef)
+    → arg_of (read (arg_step (in_arg terms x))).part ≡ roll-GenericArg (in_arg reading x)
 arg_read_at (GenericArg-F.Ty t) = sym (arg.rolls-Ty (reading.ty t))
 arg_read_at (GenericArg-F.Const c) = ap arg.Const (const_read c) ∙ sym (arg.rolls-Const c)
 
@@ -320,10 +339,13 @@ ty_read_at (Ty-F.Ref m r t) = refl
 ty_read_at (Ty-F.RawPtr m t) = sym (ty.rolls-RawPtr m (reading.ty t))
 ty_read_at (Ty-F.Adt id xs) = ap (ty.Adt id) (args_read xs) ∙ sym (ty.rolls-Adt id (map reading.arg xs))
 ty_read_at (Ty-F.FnDef id xs) = ap (ty.FnDef id) (args_read xs) ∙ sym (ty.rolls-FnDef id (map reading.arg xs))
-ty_read_at (Ty-F.FnPtr u ts t) = (λ i. ty.FnPtr u (inputs_read ts t i) (output_read ts t i)) ∙ sym (ty.rolls-FnPtr u (map reading.ty ts) (reading.ty t))
-ty_read_at (Ty-F.Closure id ts t) = (λ i. ty.Closure id (inputs_read ts t i) (output_read ts t i)) ∙ sym (ty.rolls-Closure id (map reading.ty ts) (reading.ty t))
+ty_read_at (Ty-F.FnPtr u ts t) =
+    (λ i. ty.FnPtr u (inputs_read ts t i) (output_read ts t i)) ∙ sym (ty.rolls-FnPtr u (map reading.ty ts) (reading.ty t))
+ty_read_at (Ty-F.Closure id ts t) =
+    (λ i. ty.Closure id (inputs_read ts t i) (output_read ts t i)) ∙ sym (ty.rolls-Closure id (map reading.ty ts) (reading.ty t))
 ty_read_at (Ty-F.Dynamic None bs ids) = dynamic_read_none bs ids ∙ sym (ty.rolls-Dynamic None (map reading.bound bs) ids)
-ty_read_at (Ty-F.Dynamic (Some r) bs ids) = dynamic_read_some r bs ids ∙ sym (ty.rolls-Dynamic (Some (reading.trait r)) (map reading.bound bs) ids)
+ty_read_at (Ty-F.Dynamic (Some r) bs ids) =
+    dynamic_read_some r bs ids ∙ sym (ty.rolls-Dynamic (Some (reading.trait r)) (map reading.bound bs) ids)
 ty_read_at (Ty-F.Param n) = sym (ty.rolls-Param n)
 ty_read_at (Ty-F.Projection id xs) = ap (ty.Projection id) (args_read xs) ∙ sym (ty.rolls-Projection id (map reading.arg xs))
 ty_read_at (Ty-F.AssociatedType id xs) = ap (ty.AssociatedType id) (args_read xs) ∙ sym (ty.rolls-AssociatedType id (map reading.arg xs))
@@ -361,8 +383,10 @@ erased_first_follows : GoBySteps term_steps erased_first
 erased_first_follows = record {
   arg = λ x. ap arg_term ((folds_follow erased_steps).arg x) ∙ arg_term_at (in_arg erasing x) ∙ ap arg_step (in_arg_twice terms erasing x);
   ty = λ x. ap term ((folds_follow erased_steps).ty x) ∙ erased_ty_layer x;
-  bound = λ x. ap bound_parts ((folds_follow erased_steps).bound x) ∙ (folds_follow term_steps).bound (in_bound erasing x) ∙ ap bound_step (in_bound_twice terms erasing x);
-  trait = λ x. ap trait_parts ((folds_follow erased_steps).trait x) ∙ (folds_follow term_steps).trait (in_trait erasing x) ∙ ap trait_step (in_trait_twice terms erasing x);
+  bound = λ x. ap bound_parts ((folds_follow erased_steps).bound x) ∙ (folds_follow term_steps).bound (in_bound erasing x) ∙ ap bound_step
+      (in_bound_twice terms erasing x);
+  trait = λ x. ap trait_parts ((folds_follow erased_steps).trait x) ∙ (folds_follow term_steps).trait (in_trait erasing x) ∙ ap trait_step
+      (in_trait_twice terms erasing x);
 }
 
 erased_first_same : SameMaps erased_first terms

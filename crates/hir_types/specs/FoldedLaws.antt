@@ -8,7 +8,8 @@ use Rattle.hir_types.specs.Folds.{map_twice, map_itself}
 use Rattle.hir_types.specs.Replacements.{each_same, folded_itself, args_folded_itself, trait_folded_itself, folded_twice, args_folded_twice, trait_folded_twice}
 
 -- an instance stays an instance
-pub refined : {A : Type 0} (r : Assignment → A → A) → ((f g : Assignment) (t : A) → r f (r g t) ≡ r (composed f g) t) → (f : Assignment) (t u : A) → ((g : Assignment) × (u ≡ r g t)) → ((h : Assignment) × (r f u ≡ r h t))
+pub refined : {A : Type 0} (r : Assignment → A → A) → ((f g : Assignment) (t : A) → r f (r g t) ≡ r (composed f g) t)
+    → (f : Assignment) (t u : A) → ((g : Assignment) × (u ≡ r g t)) → ((h : Assignment) × (r f u ≡ r h t))
 refined r twice f t u i = (composed f i.0, ap (r f) i.1 ∙ twice f i.0 t)
 
 pub list_itself : {A : Type 0} (f : A → A) → ((t : A) → f t ≡ t) → (ts : List A) → map f ts ≡ ts
@@ -24,6 +25,7 @@ pub goal_itself : (t : Goal) → goal_replaced (with_holes each_itself) t ≡ t
 goal_itself (goal.Trait r) = ap goal.Trait (trait_folded_itself r)
 goal_itself (goal.Projection id xs t) = λ i. goal.Projection id (args_folded_itself xs i) (folded_itself t i)
 
-pub goal_twice : (f g : Assignment) (t : Goal) → goal_replaced (with_holes f) (goal_replaced (with_holes g) t) ≡ goal_replaced (with_holes (composed f g)) t
+pub goal_twice : (f g : Assignment) (t : Goal)
+    → goal_replaced (with_holes f) (goal_replaced (with_holes g) t) ≡ goal_replaced (with_holes (composed f g)) t
 goal_twice f g (goal.Trait r) = ap goal.Trait (trait_folded_twice f g r)
 goal_twice f g (goal.Projection id xs t) = λ i. goal.Projection id (args_folded_twice f g xs i) (folded_twice f g t i)

@@ -91,16 +91,20 @@ module _ (A T B R : Type 0) (s : Steps A T B R) (m n : Maps A T B R) (by_m : GoB
   AgreedTrait = AgreedOn m.trait n.trait
 
   abbrev arg_values : GenericArg-F AgreedArg AgreedTy AgreedBound AgreedTrait → GenericArg-F GenericArg Ty AliasBound TraitRef
-  arg_values = map-GenericArg AgreedArg AgreedTy AgreedBound AgreedTrait GenericArg Ty AliasBound TraitRef (λ e. e.0) (λ e. e.0) (λ e. e.0) (λ e. e.0)
+  arg_values = map-GenericArg AgreedArg AgreedTy AgreedBound AgreedTrait GenericArg Ty AliasBound TraitRef (λ e. e.0) (λ e. e.0) (λ e. e.0)
+      (λ e. e.0)
 
   abbrev ty_values : Ty-F AgreedArg AgreedTy AgreedBound AgreedTrait → Ty-F GenericArg Ty AliasBound TraitRef
-  ty_values = map-Ty AgreedArg AgreedTy AgreedBound AgreedTrait GenericArg Ty AliasBound TraitRef (λ e. e.0) (λ e. e.0) (λ e. e.0) (λ e. e.0)
+  ty_values = map-Ty AgreedArg AgreedTy AgreedBound AgreedTrait GenericArg Ty AliasBound TraitRef (λ e. e.0) (λ e. e.0) (λ e. e.0)
+      (λ e. e.0)
 
   abbrev bound_values : AliasBound-F AgreedArg AgreedTy AgreedBound AgreedTrait → AliasBound-F GenericArg Ty AliasBound TraitRef
-  bound_values = map-AliasBound AgreedArg AgreedTy AgreedBound AgreedTrait GenericArg Ty AliasBound TraitRef (λ e. e.0) (λ e. e.0) (λ e. e.0) (λ e. e.0)
+  bound_values = map-AliasBound AgreedArg AgreedTy AgreedBound AgreedTrait GenericArg Ty AliasBound TraitRef (λ e. e.0) (λ e. e.0)
+      (λ e. e.0) (λ e. e.0)
 
   abbrev trait_values : TraitRef-F AgreedArg AgreedTy AgreedBound AgreedTrait → TraitRef-F GenericArg Ty AliasBound TraitRef
-  trait_values = map-TraitRef AgreedArg AgreedTy AgreedBound AgreedTrait GenericArg Ty AliasBound TraitRef (λ e. e.0) (λ e. e.0) (λ e. e.0) (λ e. e.0)
+  trait_values = map-TraitRef AgreedArg AgreedTy AgreedBound AgreedTrait GenericArg Ty AliasBound TraitRef (λ e. e.0) (λ e. e.0) (λ e. e.0)
+      (λ e. e.0)
 
   arg_layer_same : (y : GenericArg-F AgreedArg AgreedTy AgreedBound AgreedTrait) → in_arg m (arg_values y) ≡ in_arg n (arg_values y)
   arg_layer_same (GenericArg-F.Ty t) = λ i. GenericArg-F.Ty (t.1 i)
@@ -123,22 +127,27 @@ module _ (A T B R : Type 0) (s : Steps A T B R) (m n : Maps A T B R) (by_m : GoB
   ty_layer_same (Ty-F.Opaque id xs) = λ i. Ty-F.Opaque id (map_agreed m.arg n.arg xs i)
   ty_layer_same _ = refl
 
-  bound_layer_same : (y : AliasBound-F AgreedArg AgreedTy AgreedBound AgreedTrait) → in_bound m (bound_values y) ≡ in_bound n (bound_values y)
+  bound_layer_same : (y : AliasBound-F AgreedArg AgreedTy AgreedBound AgreedTrait)
+      → in_bound m (bound_values y) ≡ in_bound n (bound_values y)
   bound_layer_same y = λ i. record { alias = y.alias; ty = y.ty.1 i }
 
   trait_layer_same : (y : TraitRef-F AgreedArg AgreedTy AgreedBound AgreedTrait) → in_trait m (trait_values y) ≡ in_trait n (trait_values y)
   trait_layer_same y = λ i. record { id = y.id; args = map_agreed m.arg n.arg y.args i }
 
-  arg_same_at : (x : GenericArg-F GenericArg Ty AliasBound TraitRef) (y : GenericArg-F AgreedArg AgreedTy AgreedBound AgreedTrait) → arg_values y ≡ x → m.arg (roll-GenericArg x) ≡ n.arg (roll-GenericArg x)
+  arg_same_at : (x : GenericArg-F GenericArg Ty AliasBound TraitRef) (y : GenericArg-F AgreedArg AgreedTy AgreedBound AgreedTrait)
+      → arg_values y ≡ x → m.arg (roll-GenericArg x) ≡ n.arg (roll-GenericArg x)
   arg_same_at x y is = by_m.arg x ∙ ap s.arg (subst (λ z. in_arg m z ≡ in_arg n z) is (arg_layer_same y)) ∙ sym (by_n.arg x)
 
-  ty_same_at : (x : Ty-F GenericArg Ty AliasBound TraitRef) (y : Ty-F AgreedArg AgreedTy AgreedBound AgreedTrait) → ty_values y ≡ x → m.ty (roll-Ty x) ≡ n.ty (roll-Ty x)
+  ty_same_at : (x : Ty-F GenericArg Ty AliasBound TraitRef) (y : Ty-F AgreedArg AgreedTy AgreedBound AgreedTrait) → ty_values y ≡ x
+      → m.ty (roll-Ty x) ≡ n.ty (roll-Ty x)
   ty_same_at x y is = by_m.ty x ∙ ap s.ty (subst (λ z. in_ty m z ≡ in_ty n z) is (ty_layer_same y)) ∙ sym (by_n.ty x)
 
-  bound_same_at : (x : AliasBound-F GenericArg Ty AliasBound TraitRef) (y : AliasBound-F AgreedArg AgreedTy AgreedBound AgreedTrait) → bound_values y ≡ x → m.bound (roll-AliasBound x) ≡ n.bound (roll-AliasBound x)
+  bound_same_at : (x : AliasBound-F GenericArg Ty AliasBound TraitRef) (y : AliasBound-F AgreedArg AgreedTy AgreedBound AgreedTrait)
+      → bound_values y ≡ x → m.bound (roll-AliasBound x) ≡ n.bound (roll-AliasBound x)
   bound_same_at x y is = by_m.bound x ∙ ap s.bound (subst (λ z. in_bound m z ≡ in_bound n z) is (bound_layer_same y)) ∙ sym (by_n.bound x)
 
-  trait_same_at : (x : TraitRef-F GenericArg Ty AliasBound TraitRef) (y : TraitRef-F AgreedArg AgreedTy AgreedBound AgreedTrait) → trait_values y ≡ x → m.trait (roll-TraitRef x) ≡ n.trait (roll-TraitRef x)
+  trait_same_at : (x : TraitRef-F GenericArg Ty AliasBound TraitRef) (y : TraitRef-F AgreedArg AgreedTy AgreedBound AgreedTrait)
+      → trait_values y ≡ x → m.trait (roll-TraitRef x) ≡ n.trait (roll-TraitRef x)
   trait_same_at x y is = by_m.trait x ∙ ap s.trait (subst (λ z. in_trait m z ≡ in_trait n z) is (trait_layer_same y)) ∙ sym (by_n.trait x)
 
   abbrev ArgSame : GenericArg → Type 0
@@ -184,13 +193,21 @@ unique {A = A} {T = T} {B = B} {R = R} s m n by_m by_n = record {
 
 -- the second maps lead from the four types to themselves
 abbrev pub maps_after : {A T B R : Type 0} → Maps A T B R → Maps GenericArg Ty AliasBound TraitRef → Maps A T B R
-maps_after m n = record { arg = λ x. m.arg (n.arg x); ty = λ t. m.ty (n.ty t); bound = λ b. m.bound (n.bound b); trait = λ r. m.trait (n.trait r) }
+maps_after m n = record {
+  arg = λ x. m.arg (n.arg x);
+  ty = λ t. m.ty (n.ty t);
+  bound = λ b. m.bound (n.bound b);
+  trait =
+      λ r. m.trait (n.trait r);
+}
 
-pub in_arg_twice : {A T B R : Type 0} (m : Maps A T B R) (n : Maps GenericArg Ty AliasBound TraitRef) (x : GenericArg-F GenericArg Ty AliasBound TraitRef) → in_arg m (in_arg n x) ≡ in_arg (maps_after m n) x
+pub in_arg_twice : {A T B R : Type 0} (m : Maps A T B R) (n : Maps GenericArg Ty AliasBound TraitRef)
+    (x : GenericArg-F GenericArg Ty AliasBound TraitRef) → in_arg m (in_arg n x) ≡ in_arg (maps_after m n) x
 in_arg_twice m n (GenericArg-F.Ty t) = refl
 in_arg_twice m n (GenericArg-F.Const c) = refl
 
-pub in_ty_twice : {A T B R : Type 0} (m : Maps A T B R) (n : Maps GenericArg Ty AliasBound TraitRef) (x : Ty-F GenericArg Ty AliasBound TraitRef) → in_ty m (in_ty n x) ≡ in_ty (maps_after m n) x
+pub in_ty_twice : {A T B R : Type 0} (m : Maps A T B R) (n : Maps GenericArg Ty AliasBound TraitRef)
+    (x : Ty-F GenericArg Ty AliasBound TraitRef) → in_ty m (in_ty n x) ≡ in_ty (maps_after m n) x
 in_ty_twice m n (Ty-F.Tuple ts) = λ i. Ty-F.Tuple (map_twice m.ty n.ty ts i)
 in_ty_twice m n (Ty-F.Adt id xs) = λ i. Ty-F.Adt id (map_twice m.arg n.arg xs i)
 in_ty_twice m n (Ty-F.FnDef id xs) = λ i. Ty-F.FnDef id (map_twice m.arg n.arg xs i)
@@ -203,10 +220,12 @@ in_ty_twice m n (Ty-F.AssociatedType id xs) = λ i. Ty-F.AssociatedType id (map_
 in_ty_twice m n (Ty-F.Opaque id xs) = λ i. Ty-F.Opaque id (map_twice m.arg n.arg xs i)
 in_ty_twice m n _ = refl
 
-pub in_bound_twice : {A T B R : Type 0} (m : Maps A T B R) (n : Maps GenericArg Ty AliasBound TraitRef) (x : AliasBound-F GenericArg Ty AliasBound TraitRef) → in_bound m (in_bound n x) ≡ in_bound (maps_after m n) x
+pub in_bound_twice : {A T B R : Type 0} (m : Maps A T B R) (n : Maps GenericArg Ty AliasBound TraitRef)
+    (x : AliasBound-F GenericArg Ty AliasBound TraitRef) → in_bound m (in_bound n x) ≡ in_bound (maps_after m n) x
 in_bound_twice m n x = refl
 
-pub in_trait_twice : {A T B R : Type 0} (m : Maps A T B R) (n : Maps GenericArg Ty AliasBound TraitRef) (x : TraitRef-F GenericArg Ty AliasBound TraitRef) → in_trait m (in_trait n x) ≡ in_trait (maps_after m n) x
+pub in_trait_twice : {A T B R : Type 0} (m : Maps A T B R) (n : Maps GenericArg Ty AliasBound TraitRef)
+    (x : TraitRef-F GenericArg Ty AliasBound TraitRef) → in_trait m (in_trait n x) ≡ in_trait (maps_after m n) x
 in_trait_twice m n x = λ i. record { id = x.id; args = map_twice m.arg n.arg x.args i }
 
 -- ---- each value itself

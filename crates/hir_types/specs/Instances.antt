@@ -26,7 +26,8 @@ pub record SameAtParams (f g : Replacement) : Type 0 where
   pub const_param : (n : ℕ) → f.const_param n ≡ g.const_param n
 
 -- what they do to a type without holes is the same
-pub replaced_at_params : (f g : Replacement) → SameAtParams f g → (t : Ty) → ((b : Assignment) → folded b t ≡ t) → replaced f t ≡ replaced g t
+pub replaced_at_params : (f g : Replacement) → SameAtParams f g → (t : Ty) → ((b : Assignment) → folded b t ≡ t)
+    → replaced f t ≡ replaced g t
 replaced_at_params f g h t closed =
     ap (replaced f) (sym (closed untyped)) ∙ replaced_twice f (with_holes untyped) t
     ∙ replaced_same (in_turn f (with_holes untyped)) (in_turn g (with_holes untyped)) (record {
@@ -49,11 +50,13 @@ top_const c = ap out-GenericArg (sym (arg.rolls-Const c)) ∙ out-roll-GenericAr
 -- as a type and as a const, what the argument is replaced by is what it was, replaced
 abbrev IsReplaced : Replacement → GenericArg → Type 0
 IsReplaced s x =
-    (replaced s (type_of (Some x)) ≡ type_of (Some (arg_replaced s x))) × (const_replaced s (const_of (Some x)) ≡ const_of (Some (arg_replaced s x)))
+    (replaced s (type_of (Some x)) ≡ type_of (Some (arg_replaced s x)))
+    × (const_replaced s (const_of (Some x)) ≡ const_of (Some (arg_replaced s x)))
 
 type_is_replaced : (s : Replacement) (t : Ty) → IsReplaced s (arg.Ty t)
 type_is_replaced s t =
-    let now : out-GenericArg (arg_replaced s (arg.Ty t)) ≡ GenericArg-F.Ty (replaced s t) = ap out-GenericArg (arg_replaced_type s t) ∙ top_type (replaced s t) in (
+    let now : out-GenericArg (arg_replaced s (arg.Ty t)) ≡ GenericArg-F.Ty (replaced s t) =
+    ap out-GenericArg (arg_replaced_type s t) ∙ top_type (replaced s t) in (
       ap (λ y. replaced s (arg_as_type y)) (top_type t) ∙ sym (ap arg_as_type now),
       ap (λ y. const_replaced s (const_in y)) (top_type t) ∙ sym (ap const_in now),
     )
@@ -66,7 +69,8 @@ const_is_replaced s c =
       ap (λ y. const_replaced s (const_in y)) (top_const c) ∙ sym (ap const_in now),
     )
 
-is_replaced_at : (s : Replacement) (x : GenericArg) (y : GenericArg-F GenericArg Ty AliasBound TraitRef) → roll-GenericArg y ≡ x → IsReplaced s x
+is_replaced_at : (s : Replacement) (x : GenericArg) (y : GenericArg-F GenericArg Ty AliasBound TraitRef) → roll-GenericArg y ≡ x
+    → IsReplaced s x
 is_replaced_at s x (GenericArg-F.Ty t) e = subst (IsReplaced s) (sym (arg.rolls-Ty t) ∙ e) (type_is_replaced s t)
 is_replaced_at s x (GenericArg-F.Const c) e = subst (IsReplaced s) (sym (arg.rolls-Const c) ∙ e) (const_is_replaced s c)
 
@@ -84,12 +88,14 @@ const_of_replaced s (Some x) = (is_replaced s x).1
 -- ---- instances
 
 -- an instance of a type without holes comes to the instance at what the arguments come to
-pub instance_folded : (a : Assignment) (xs : List GenericArg) (t : Ty) → ((b : Assignment) → folded b t ≡ t) → folded a (replaced (with_params xs) t) ≡ replaced (with_params (args_replaced (with_holes a) xs)) t
+pub instance_folded : (a : Assignment) (xs : List GenericArg) (t : Ty) → ((b : Assignment) → folded b t ≡ t)
+    → folded a (replaced (with_params xs) t) ≡ replaced (with_params (args_replaced (with_holes a) xs)) t
 instance_folded a xs t closed =
     replaced_twice (with_holes a) (with_params xs) t
     ∙ replaced_at_params (in_turn (with_holes a) (with_params xs)) (with_params (args_replaced (with_holes a) xs)) (record {
       param = λ n. type_of_replaced (with_holes a) (slice_get xs n) ∙ ap type_of (sym (slice_get-map (arg_replaced (with_holes a)) xs n));
-      const_param = λ n. const_of_replaced (with_holes a) (slice_get xs n) ∙ ap const_of (sym (slice_get-map (arg_replaced (with_holes a)) xs n));
+      const_param = λ n. const_of_replaced (with_holes a) (slice_get xs n) ∙ ap const_of
+          (sym (slice_get-map (arg_replaced (with_holes a)) xs n));
     }) t closed
 
 -- ---- at types alone
@@ -101,8 +107,10 @@ types_args_replaced s (t ∷ ts) = λ i. arg_replaced_type s t i ∷ types_args_
 pub types_args_folded : (a : Assignment) (ts : List Ty) → args_replaced (with_holes a) (map arg.Ty ts) ≡ map arg.Ty (map (folded a) ts)
 types_args_folded a ts = types_args_replaced (with_holes a) ts
 
-pub instance_at_types : (a : Assignment) (ts : List Ty) (t : Ty) → ((b : Assignment) → folded b t ≡ t) → folded a (replaced (with_params (map arg.Ty ts)) t) ≡ replaced (with_params (map arg.Ty (map (folded a) ts))) t
-instance_at_types a ts t closed = instance_folded a (map arg.Ty ts) t closed ∙ ap (λ xs. replaced (with_params xs) t) (types_args_folded a ts)
+pub instance_at_types : (a : Assignment) (ts : List Ty) (t : Ty) → ((b : Assignment) → folded b t ≡ t)
+    → folded a (replaced (with_params (map arg.Ty ts)) t) ≡ replaced (with_params (map arg.Ty (map (folded a) ts))) t
+instance_at_types a ts t closed =
+    instance_folded a (map arg.Ty ts) t closed ∙ ap (λ xs. replaced (with_params xs) t) (types_args_folded a ts)
 
 -- a parameter comes to the type at its number
 pub param_at : (ts : List Ty) (n : ℕ) (u : Ty) → slice_get ts n ≡ Some u → replaced (with_params (map arg.Ty ts)) (ty.Param n) ≡ u

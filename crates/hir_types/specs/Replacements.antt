@@ -27,7 +27,8 @@ replacing s = folds (layers s)
 pub at_ty : (s : Replacement) (x : Ty-F GenericArg Ty AliasBound TraitRef) → replaced s (roll-Ty x) ≡ ty_layer s (in_ty (replacing s) x)
 at_ty s = (folds_follow (layers s)).ty
 
-pub at_arg : (s : Replacement) (x : GenericArg-F GenericArg Ty AliasBound TraitRef) → arg_replaced s (roll-GenericArg x) ≡ arg_layer s (in_arg (replacing s) x)
+pub at_arg : (s : Replacement) (x : GenericArg-F GenericArg Ty AliasBound TraitRef)
+    → arg_replaced s (roll-GenericArg x) ≡ arg_layer s (in_arg (replacing s) x)
 at_arg s = (folds_follow (layers s)).arg
 
 pub replaced_bool : (s : Replacement) → replaced s ty.Bool ≡ ty.Bool
@@ -51,10 +52,14 @@ replaced_array s t c = ap (replaced s) (sym (ty.rolls-Array t c)) ∙ at_ty s (T
 pub replaced_adt : (s : Replacement) (id : AdtId) (xs : List GenericArg) → replaced s (ty.Adt id xs) ≡ ty.Adt id (args_replaced s xs)
 replaced_adt s id xs = ap (replaced s) (sym (ty.rolls-Adt id xs)) ∙ at_ty s (Ty-F.Adt id xs) ∙ ty.rolls-Adt id (args_replaced s xs)
 
-pub replaced_associated_type : (s : Replacement) (id : TypeAliasId) (xs : List GenericArg) → replaced s (ty.AssociatedType id xs) ≡ ty.AssociatedType id (args_replaced s xs)
-replaced_associated_type s id xs = ap (replaced s) (sym (ty.rolls-AssociatedType id xs)) ∙ at_ty s (Ty-F.AssociatedType id xs) ∙ ty.rolls-AssociatedType id (args_replaced s xs)
+pub replaced_associated_type : (s : Replacement) (id : TypeAliasId) (xs : List GenericArg)
+    → replaced s (ty.AssociatedType id xs) ≡ ty.AssociatedType id (args_replaced s xs)
+replaced_associated_type s id xs =
+    ap (replaced s) (sym (ty.rolls-AssociatedType id xs)) ∙ at_ty s (Ty-F.AssociatedType id xs) ∙ ty.rolls-AssociatedType id
+    (args_replaced s xs)
 
-pub replaced_fn_def : (s : Replacement) (id : CallableDefId) (xs : List GenericArg) → replaced s (ty.FnDef id xs) ≡ ty.FnDef id (args_replaced s xs)
+pub replaced_fn_def : (s : Replacement) (id : CallableDefId) (xs : List GenericArg)
+    → replaced s (ty.FnDef id xs) ≡ ty.FnDef id (args_replaced s xs)
 replaced_fn_def s id xs = ap (replaced s) (sym (ty.rolls-FnDef id xs)) ∙ at_ty s (Ty-F.FnDef id xs) ∙ ty.rolls-FnDef id (args_replaced s xs)
 
 pub replaced_param : (s : Replacement) (n : ℕ) → replaced s (ty.Param n) ≡ s.param n
@@ -119,7 +124,8 @@ const_itself const.Unknown = refl
 const_itself (const.Var n) = refl
 const_itself const.Hole = refl
 
-arg_layer_itself : (x : GenericArg-F GenericArg Ty AliasBound TraitRef) → roll-GenericArg x ≡ arg_layer (with_holes each_itself) (in_arg itself x)
+arg_layer_itself : (x : GenericArg-F GenericArg Ty AliasBound TraitRef)
+    → roll-GenericArg x ≡ arg_layer (with_holes each_itself) (in_arg itself x)
 arg_layer_itself (GenericArg-F.Ty t) = refl
 arg_layer_itself (GenericArg-F.Const c) = arg.rolls-Const c ∙ ap arg.Const (sym (const_itself c))
 
@@ -140,7 +146,8 @@ itself_follows = record {
 
 -- all four at once
 folds_itself : SameMaps (replacing (with_holes each_itself)) itself
-folds_itself = unique (layers (with_holes each_itself)) (replacing (with_holes each_itself)) itself (folds_follow (layers (with_holes each_itself))) itself_follows
+folds_itself = unique (layers (with_holes each_itself)) (replacing (with_holes each_itself)) itself
+    (folds_follow (layers (with_holes each_itself))) itself_follows
 
 pub folded_itself : (t : Ty) → folded each_itself t ≡ t
 folded_itself = folds_itself.ty
@@ -182,15 +189,18 @@ const_replaced_twice f g const.Hole = refl
 abbrev both : Replacement → Replacement → Maps GenericArg Ty AliasBound TraitRef
 both f g = maps_after (replacing f) (replacing g)
 
-arg_layer_twice : (f g : Replacement) (x : GenericArg-F GenericArg Ty AliasBound TraitRef) → arg_replaced f (arg_layer g (in_arg (replacing g) x)) ≡ arg_layer (in_turn f g) (in_arg (both f g) x)
+arg_layer_twice : (f g : Replacement) (x : GenericArg-F GenericArg Ty AliasBound TraitRef)
+    → arg_replaced f (arg_layer g (in_arg (replacing g) x)) ≡ arg_layer (in_turn f g) (in_arg (both f g) x)
 arg_layer_twice f g (GenericArg-F.Ty t) = at_arg f (GenericArg-F.Ty (replaced g t))
 arg_layer_twice f g (GenericArg-F.Const c) = arg_replaced_const f (const_replaced g c) ∙ ap arg.Const (const_replaced_twice f g c)
 
-ty_layer_twice : (f g : Replacement) (x : Ty-F GenericArg Ty AliasBound TraitRef) → replaced f (ty_layer g (in_ty (replacing g) x)) ≡ ty_layer (in_turn f g) (in_ty (both f g) x)
+ty_layer_twice : (f g : Replacement) (x : Ty-F GenericArg Ty AliasBound TraitRef)
+    → replaced f (ty_layer g (in_ty (replacing g) x)) ≡ ty_layer (in_turn f g) (in_ty (both f g) x)
 ty_layer_twice f g (Ty-F.Var n) = refl
 ty_layer_twice f g (Ty-F.IntVar n) = refl
 ty_layer_twice f g (Ty-F.Param n) = refl
-ty_layer_twice f g (Ty-F.Array t c) = replaced_array f (replaced g t) (const_replaced g c) ∙ ap (ty.Array (replaced f (replaced g t))) (const_replaced_twice f g c)
+ty_layer_twice f g (Ty-F.Array t c) =
+    replaced_array f (replaced g t) (const_replaced g c) ∙ ap (ty.Array (replaced f (replaced g t))) (const_replaced_twice f g c)
 ty_layer_twice f g x = at_ty f (in_ty (replacing g) x) ∙ ap roll-Ty (in_ty_twice (replacing f) (replacing g) x)
 
 both_follow : (f g : Replacement) → GoBySteps (layers (in_turn f g)) (both f g)
@@ -201,12 +211,16 @@ both_follow f g = record {
   trait = λ x. trait_twice_at f g (roll-TraitRef x);
 }
   where
-    bound_twice_at : (f g : Replacement) (b : AliasBound) → bound_replaced f (bound_replaced g b) ≡ record { alias = b.alias; ty = replaced f (replaced g b.ty) }
-    bound_twice_at f g b = ap (bound_replaced f) (bound_replaced_is g b) ∙ bound_replaced_is f (record { alias = b.alias; ty = replaced g b.ty })
+    bound_twice_at : (f g : Replacement) (b : AliasBound)
+        → bound_replaced f (bound_replaced g b) ≡ record { alias = b.alias; ty = replaced f (replaced g b.ty) }
+    bound_twice_at f g b = ap (bound_replaced f) (bound_replaced_is g b) ∙ bound_replaced_is f
+        (record { alias = b.alias; ty = replaced g b.ty })
 
-    trait_twice_at : (f g : Replacement) (r : TraitRef) → trait_replaced f (trait_replaced g r) ≡ record { id = r.id; args = map (λ x. arg_replaced f (arg_replaced g x)) r.args }
+    trait_twice_at : (f g : Replacement) (r : TraitRef)
+        → trait_replaced f (trait_replaced g r) ≡ record { id = r.id; args = map (λ x. arg_replaced f (arg_replaced g x)) r.args }
     trait_twice_at f g r =
-        ap (trait_replaced f) (trait_replaced_is g r) ∙ trait_replaced_is f (record { id = r.id; args = args_replaced g r.args }) ∙ (λ i. record { id = r.id; args = map_twice (arg_replaced f) (arg_replaced g) r.args i })
+        ap (trait_replaced f) (trait_replaced_is g r) ∙ trait_replaced_is f (record { id = r.id; args = args_replaced g r.args }) ∙
+        (λ i. record { id = r.id; args = map_twice (arg_replaced f) (arg_replaced g) r.args i })
 
 folds_twice : (f g : Replacement) → SameMaps (both f g) (replacing (in_turn f g))
 folds_twice f g = unique (layers (in_turn f g)) (both f g) (replacing (in_turn f g)) (both_follow f g) (folds_follow (layers (in_turn f g)))
@@ -221,7 +235,8 @@ pub trait_replaced_twice : (f g : Replacement) (r : TraitRef) → trait_replaced
 trait_replaced_twice f g = (folds_twice f g).trait
 
 pub args_replaced_twice : (f g : Replacement) (xs : List GenericArg) → args_replaced f (args_replaced g xs) ≡ args_replaced (in_turn f g) xs
-args_replaced_twice f g xs = map_twice (arg_replaced f) (arg_replaced g) xs ∙ each_same (λ x. arg_replaced f (arg_replaced g x)) (arg_replaced (in_turn f g)) (arg_replaced_twice f g) xs
+args_replaced_twice f g xs = map_twice (arg_replaced f) (arg_replaced g) xs ∙ each_same (λ x. arg_replaced f (arg_replaced g x))
+    (arg_replaced (in_turn f g)) (arg_replaced_twice f g) xs
 
 -- a composed assignment leaves parameters as they are, as two in turn do
 pub with_holes_composed : (f g : Assignment) → in_turn (with_holes f) (with_holes g) ≡ with_holes (composed f g)
@@ -245,5 +260,6 @@ arg_folded_twice f g x = arg_replaced_twice (with_holes f) (with_holes g) x ∙ 
 pub trait_folded_twice : (f g : Assignment) (r : TraitRef) → trait_folded f (trait_folded g r) ≡ trait_folded (composed f g) r
 trait_folded_twice f g r = trait_replaced_twice (with_holes f) (with_holes g) r ∙ ap (λ s. trait_replaced s r) (with_holes_composed f g)
 
-pub args_folded_twice : (f g : Assignment) (xs : List GenericArg) → args_replaced (with_holes f) (args_replaced (with_holes g) xs) ≡ args_replaced (with_holes (composed f g)) xs
+pub args_folded_twice : (f g : Assignment) (xs : List GenericArg)
+    → args_replaced (with_holes f) (args_replaced (with_holes g) xs) ≡ args_replaced (with_holes (composed f g)) xs
 args_folded_twice f g xs = args_replaced_twice (with_holes f) (with_holes g) xs ∙ ap (λ s. args_replaced s xs) (with_holes_composed f g)

@@ -94,17 +94,25 @@ term_adt id xs = ap term (sym (ty.rolls-Adt id xs)) ∙ term_at (Ty-F.Adt id xs)
 pub term_fn_def : (id : CallableDefId) (xs : List GenericArg) → term (ty.FnDef id xs) ≡ node (head.FnDef id) (map arg_term xs)
 term_fn_def id xs = ap term (sym (ty.rolls-FnDef id xs)) ∙ term_at (Ty-F.FnDef id xs)
 
-pub term_fn_ptr : (u : Safety) (ts : List Ty) (t : Ty) → term (ty.FnPtr u ts t) ≡ node (head.FnPtr u) (parts_of_types ts ++ type_part (term t) ∷ [])
-term_fn_ptr u ts t = ap term (sym (ty.rolls-FnPtr u ts t)) ∙ term_at (Ty-F.FnPtr u ts t) ∙ ap (λ us. node (head.FnPtr u) (us ++ type_part (term t) ∷ [])) (map_twice type_part term ts)
+pub term_fn_ptr : (u : Safety) (ts : List Ty) (t : Ty)
+    → term (ty.FnPtr u ts t) ≡ node (head.FnPtr u) (parts_of_types ts ++ type_part (term t) ∷ [])
+term_fn_ptr u ts t = ap term (sym (ty.rolls-FnPtr u ts t)) ∙ term_at (Ty-F.FnPtr u ts t) ∙ ap
+    (λ us. node (head.FnPtr u) (us ++ type_part (term t) ∷ [])) (map_twice type_part term ts)
 
-pub term_closure : (id : ClosureId) (ts : List Ty) (t : Ty) → term (ty.Closure id ts t) ≡ node (head.Closure id) (parts_of_types ts ++ type_part (term t) ∷ [])
-term_closure id ts t = ap term (sym (ty.rolls-Closure id ts t)) ∙ term_at (Ty-F.Closure id ts t) ∙ ap (λ us. node (head.Closure id) (us ++ type_part (term t) ∷ [])) (map_twice type_part term ts)
+pub term_closure : (id : ClosureId) (ts : List Ty) (t : Ty)
+    → term (ty.Closure id ts t) ≡ node (head.Closure id) (parts_of_types ts ++ type_part (term t) ∷ [])
+term_closure id ts t = ap term (sym (ty.rolls-Closure id ts t)) ∙ term_at (Ty-F.Closure id ts t) ∙ ap
+    (λ us. node (head.Closure id) (us ++ type_part (term t) ∷ [])) (map_twice type_part term ts)
 
-pub term_dynamic : (p : Option TraitRef) (bs : List AliasBound) (ids : List TraitId) → term (ty.Dynamic p bs ids) ≡ node head.Dynamic (principal_parts (option_map trait_parts p) ++ flat_map bound_parts bs ++ auto_parts ids)
+pub term_dynamic : (p : Option TraitRef) (bs : List AliasBound) (ids : List TraitId)
+    → term (ty.Dynamic p bs ids) ≡ node head.Dynamic
+    (principal_parts (option_map trait_parts p) ++ flat_map bound_parts bs ++ auto_parts ids)
 term_dynamic None bs ids =
-    ap term (sym (ty.rolls-Dynamic None bs ids)) ∙ term_at (Ty-F.Dynamic None bs ids) ∙ ap (λ us. node head.Dynamic ((leaf head.NoPrincipal ∷ []) ++ us ++ auto_parts ids)) (flat_map_map bound_parts bs)
+    ap term (sym (ty.rolls-Dynamic None bs ids)) ∙ term_at (Ty-F.Dynamic None bs ids) ∙ ap
+    (λ us. node head.Dynamic ((leaf head.NoPrincipal ∷ []) ++ us ++ auto_parts ids)) (flat_map_map bound_parts bs)
 term_dynamic (Some r) bs ids =
-    ap term (sym (ty.rolls-Dynamic (Some r) bs ids)) ∙ term_at (Ty-F.Dynamic (Some r) bs ids) ∙ ap (λ us. node head.Dynamic ((trait_parts r) ++ us ++ auto_parts ids)) (flat_map_map bound_parts bs)
+    ap term (sym (ty.rolls-Dynamic (Some r) bs ids)) ∙ term_at (Ty-F.Dynamic (Some r) bs ids) ∙ ap
+    (λ us. node head.Dynamic ((trait_parts r) ++ us ++ auto_parts ids)) (flat_map_map bound_parts bs)
 
 pub term_param : (n : ℕ) → term (ty.Param n) ≡ node (head.Param n) []
 term_param n = ap term (sym (ty.rolls-Param n)) ∙ term_at (Ty-F.Param n)
@@ -112,7 +120,8 @@ term_param n = ap term (sym (ty.rolls-Param n)) ∙ term_at (Ty-F.Param n)
 pub term_projection : (id : TypeAliasId) (xs : List GenericArg) → term (ty.Projection id xs) ≡ node (head.Projection id) (map arg_term xs)
 term_projection id xs = ap term (sym (ty.rolls-Projection id xs)) ∙ term_at (Ty-F.Projection id xs)
 
-pub term_associated_type : (id : TypeAliasId) (xs : List GenericArg) → term (ty.AssociatedType id xs) ≡ node (head.AssociatedType id) (map arg_term xs)
+pub term_associated_type : (id : TypeAliasId) (xs : List GenericArg)
+    → term (ty.AssociatedType id xs) ≡ node (head.AssociatedType id) (map arg_term xs)
 term_associated_type id xs = ap term (sym (ty.rolls-AssociatedType id xs)) ∙ term_at (Ty-F.AssociatedType id xs)
 
 pub term_opaque : (id : OpaqueId) (xs : List GenericArg) → term (ty.Opaque id xs) ≡ node (head.Opaque id) (map arg_term xs)
@@ -143,7 +152,8 @@ args_terms (t ∷ ts) = λ i. arg_term_type t i ∷ args_terms ts i
 pub term_adt_types : (id : AdtId) (ts : List Ty) → term (ty.Adt id (map arg.Ty ts)) ≡ node (head.Adt id) (parts_of_types ts)
 term_adt_types id ts = term_adt id (map arg.Ty ts) ∙ ap (node (head.Adt id)) (args_terms ts)
 
-pub term_associated_types : (id : TypeAliasId) (ts : List Ty) → term (ty.AssociatedType id (map arg.Ty ts)) ≡ node (head.AssociatedType id) (parts_of_types ts)
+pub term_associated_types : (id : TypeAliasId) (ts : List Ty)
+    → term (ty.AssociatedType id (map arg.Ty ts)) ≡ node (head.AssociatedType id) (parts_of_types ts)
 term_associated_types id ts = term_associated_type id (map arg.Ty ts) ∙ ap (node (head.AssociatedType id)) (args_terms ts)
 
 pub term_fn_def_types : (id : CallableDefId) (ts : List Ty) → term (ty.FnDef id (map arg.Ty ts)) ≡ node (head.FnDef id) (parts_of_types ts)
@@ -155,7 +165,37 @@ trait_parts_is r = (folds_follow term_steps).trait (record { id = r.id; args = r
 pub bound_parts_is : (b : AliasBound) → bound_parts b ≡ leaf (head.Bound b.alias) ∷ type_part (term b.ty) ∷ []
 bound_parts_is b = (folds_follow term_steps).bound (record { alias = b.alias; ty = b.ty })
 
-pub ruleset term_is = (term_bool, term_char, term_int, term_uint, term_float, term_str, term_never, term_tuple, term_array, term_slice, term_ref, term_raw_ptr, term_adt, term_fn_def, term_fn_ptr, term_closure, term_dynamic, term_param, term_projection, term_associated_type, term_opaque, term_error, term_var, term_int_var, term_hole, arg_term_type, arg_term_const, trait_parts_is, bound_parts_is)
+pub ruleset term_is = (
+  term_bool,
+  term_char,
+  term_int,
+  term_uint,
+  term_float,
+  term_str,
+  term_never,
+  term_tuple,
+  term_array,
+  term_slice,
+  term_ref,
+  term_raw_ptr,
+  term_adt,
+  term_fn_def,
+  term_fn_ptr,
+  term_closure,
+  term_dynamic,
+  term_param,
+  term_projection,
+  term_associated_type,
+  term_opaque,
+  term_error,
+  term_var,
+  term_int_var,
+  term_hole,
+  arg_term_type,
+  arg_term_const,
+  trait_parts_is,
+  bound_parts_is,
+)
 
 -- ---- a replacement acts on the term
 
@@ -195,21 +235,27 @@ assigned s = record { arg = assigned_arg s; ty = assigned_ty s; bound = bound_st
 abbrev replaced_first : Assignment → Maps Term Term (List Term) (List Term)
 replaced_first s = maps_after terms (replacing (with_holes s))
 
-replaced_arg_layer : (s : Assignment) (x : GenericArg-F GenericArg Ty AliasBound TraitRef) → arg_term (arg_layer (with_holes s) (in_arg (replacing (with_holes s)) x)) ≡ assigned_arg s (in_arg (replaced_first s) x)
+replaced_arg_layer : (s : Assignment) (x : GenericArg-F GenericArg Ty AliasBound TraitRef)
+    → arg_term (arg_layer (with_holes s) (in_arg (replacing (with_holes s)) x)) ≡ assigned_arg s (in_arg (replaced_first s) x)
 replaced_arg_layer s (GenericArg-F.Ty t) = arg_term_at (GenericArg-F.Ty (folded s t))
 replaced_arg_layer s (GenericArg-F.Const c) = arg_term_const (const_folded s c)
 
-replaced_ty_layer : (s : Assignment) (x : Ty-F GenericArg Ty AliasBound TraitRef) → term (ty_layer (with_holes s) (in_ty (replacing (with_holes s)) x)) ≡ assigned_ty s (in_ty (replaced_first s) x)
+replaced_ty_layer : (s : Assignment) (x : Ty-F GenericArg Ty AliasBound TraitRef)
+    → term (ty_layer (with_holes s) (in_ty (replacing (with_holes s)) x)) ≡ assigned_ty s (in_ty (replaced_first s) x)
 replaced_ty_layer s (Ty-F.Var n) = refl
 replaced_ty_layer s (Ty-F.IntVar n) = refl
 replaced_ty_layer s (Ty-F.Param n) = term_param n
 replaced_ty_layer s (Ty-F.Array t c) = term_array (folded s t) (const_folded s c)
 replaced_ty_layer s x = term_at (in_ty (replacing (with_holes s)) x) ∙ ap ty_step (in_ty_twice terms (replacing (with_holes s)) x)
 
-replaced_trait : (s : Assignment) (r : TraitRef) → trait_parts (trait_folded s r) ≡ leaf (head.Principal r.id) ∷ map (λ x. arg_term (arg_folded s x)) r.args
-replaced_trait s r = ap trait_parts (trait_replaced_is (with_holes s) r) ∙ trait_parts_is (record { id = r.id; args = map (arg_folded s) r.args }) ∙ ap (◌∷◌ (leaf (head.Principal r.id))) (map_twice arg_term (arg_folded s) r.args)
+replaced_trait : (s : Assignment) (r : TraitRef)
+    → trait_parts (trait_folded s r) ≡ leaf (head.Principal r.id) ∷ map (λ x. arg_term (arg_folded s x)) r.args
+replaced_trait s r = ap trait_parts (trait_replaced_is (with_holes s) r) ∙ trait_parts_is
+    (record { id = r.id; args = map (arg_folded s) r.args }) ∙ ap (◌∷◌ (leaf (head.Principal r.id)))
+    (map_twice arg_term (arg_folded s) r.args)
 
-replaced_bound : (s : Assignment) (b : AliasBound) → bound_parts (bound_replaced (with_holes s) b) ≡ leaf (head.Bound b.alias) ∷ type_part (term (folded s b.ty)) ∷ []
+replaced_bound : (s : Assignment) (b : AliasBound)
+    → bound_parts (bound_replaced (with_holes s) b) ≡ leaf (head.Bound b.alias) ∷ type_part (term (folded s b.ty)) ∷ []
 replaced_bound s b = ap bound_parts (bound_replaced_is (with_holes s) b) ∙ bound_parts_is (record { alias = b.alias; ty = folded s b.ty })
 
 replaced_first_follows : (s : Assignment) → GoBySteps (assigned s) (replaced_first s)
@@ -230,11 +276,13 @@ term_first s = record {
 }
 
 -- a map on terms that leaves the mark before each part
-type_parts_under : (f g : Term → Term) → ((u : Term) → f (type_part u) ≡ type_part (g u)) → (h : Ty → Term) (ts : List Ty) → map f (map type_part (map h ts)) ≡ map type_part (map (λ t. g (h t)) ts)
+type_parts_under : (f g : Term → Term) → ((u : Term) → f (type_part u) ≡ type_part (g u)) → (h : Ty → Term) (ts : List Ty)
+    → map f (map type_part (map h ts)) ≡ map type_part (map (λ t. g (h t)) ts)
 type_parts_under f g e h [] = refl
 type_parts_under f g e h (t ∷ ts) = λ i. e (h t) i ∷ type_parts_under f g e h ts i
 
-flat_under : {X : Type 0} (f : Term → Term) (h : X → List Term) (xs : List X) → map f (flat_map (λ us. us) (map h xs)) ≡ flat_map (λ us. us) (map (λ x. map f (h x)) xs)
+flat_under : {X : Type 0} (f : Term → Term) (h : X → List Term) (xs : List X)
+    → map f (flat_map (λ us. us) (map h xs)) ≡ flat_map (λ us. us) (map (λ x. map f (h x)) xs)
 flat_under f h [] = refl
 flat_under f h (x ∷ xs) = map_appended f (h x) (flat_map (λ us. us) (map h xs)) ∙ ap (◌++◌ (map f (h x))) (flat_under f h xs)
 
@@ -242,30 +290,46 @@ auto_under : (s : Hole → Term) (ids : List TraitId) → map (apply s) (auto_pa
 auto_under s [] = refl
 auto_under s (id ∷ ids) = ap (◌∷◌ (leaf (head.AutoTrait id))) (auto_under s ids)
 
-inputs_under : (s : Hole → Term) (ts : List Ty) (t : Ty) → map (apply s) (map type_part (map term ts) ++ type_part (term t) ∷ []) ≡ map type_part (map (λ x. apply s (term x)) ts) ++ type_part (apply s (term t)) ∷ []
+inputs_under : (s : Hole → Term) (ts : List Ty) (t : Ty)
+    → map (apply s) (map type_part (map term ts) ++ type_part (term t) ∷ []) ≡ map type_part (map (λ x. apply s (term x)) ts)
+    ++ type_part (apply s (term t)) ∷ []
 inputs_under s ts t =
-    map_appended (apply s) (map type_part (map term ts)) (type_part (term t) ∷ []) ∙ ap (λ us. us ++ type_part (apply s (term t)) ∷ []) (type_parts_under (apply s) (apply s) (λ u. refl) term ts)
+    map_appended (apply s) (map type_part (map term ts)) (type_part (term t) ∷ []) ∙ ap (λ us. us ++ type_part (apply s (term t)) ∷ [])
+    (type_parts_under (apply s) (apply s) (λ u. refl) term ts)
 
-dynamic_under : (s : Hole → Term) (us : List Term) (bs : List AliasBound) (ids : List TraitId) → apply s (node head.Dynamic (us ++ flat_map (λ us. us) (map bound_parts bs) ++ auto_parts ids)) ≡ node head.Dynamic (map (apply s) us ++ flat_map (λ us. us) (map (λ b. map (apply s) (bound_parts b)) bs) ++ auto_parts ids)
+dynamic_under : (s : Hole → Term) (us : List Term) (bs : List AliasBound) (ids : List TraitId)
+    → apply s (node head.Dynamic (us ++ flat_map (λ us. us) (map bound_parts bs) ++ auto_parts ids))
+    ≡ node head.Dynamic (map (apply s) us ++ flat_map (λ us. us) (map (λ b. map (apply s) (bound_parts b)) bs) ++ auto_parts ids)
 dynamic_under s us bs ids =
     apply_node s head.Dynamic (us ++ flat_map (λ us. us) (map bound_parts bs) ++ auto_parts ids)
     ∙ ap (node head.Dynamic) (map_appended (apply s) (us ++ flat_map (λ us. us) (map bound_parts bs)) (auto_parts ids)
-    ∙ (λ i. (map_appended (apply s) us (flat_map (λ us. us) (map bound_parts bs)) ∙ ap (◌++◌ (map (apply s) us)) (flat_under (apply s) bound_parts bs)) i ++ auto_under s ids i))
+    ∙ (λ i. (map_appended (apply s) us (flat_map (λ us. us) (map bound_parts bs)) ∙ ap (◌++◌ (map (apply s) us))
+    (flat_under (apply s) bound_parts bs)) i ++ auto_under s ids i))
 
-args_under : (s : Hole → Term) (h : Head) (xs : List GenericArg) → apply s (node h (map arg_term xs)) ≡ node h (map (λ x. apply s (arg_term x)) xs)
+args_under : (s : Hole → Term) (h : Head) (xs : List GenericArg)
+    → apply s (node h (map arg_term xs)) ≡ node h (map (λ x. apply s (arg_term x)) xs)
 args_under s h xs = apply_node s h (map arg_term xs) ∙ ap (node h) (map_twice (apply s) arg_term xs)
 
-term_arg_layer : (s : Assignment) (x : GenericArg-F GenericArg Ty AliasBound TraitRef) → apply (terms_of s) (arg_step (in_arg terms x)) ≡ assigned_arg s (in_arg (term_first (terms_of s)) x)
+term_arg_layer : (s : Assignment) (x : GenericArg-F GenericArg Ty AliasBound TraitRef)
+    → apply (terms_of s) (arg_step (in_arg terms x)) ≡ assigned_arg s (in_arg (term_first (terms_of s)) x)
 term_arg_layer s (GenericArg-F.Ty t) = refl
 term_arg_layer s (GenericArg-F.Const c) = ap (pair (leaf head.ConstPart)) (sym (const_term_folded s c))
 
-term_ty_layer : (s : Assignment) (x : Ty-F GenericArg Ty AliasBound TraitRef) → apply (terms_of s) (ty_step (in_ty terms x)) ≡ assigned_ty s (in_ty (term_first (terms_of s)) x)
-term_ty_layer s (Ty-F.Tuple ts) = apply_node (terms_of s) head.Tuple (map type_part (map term ts)) ∙ ap (node head.Tuple) (type_parts_under (apply (terms_of s)) (apply (terms_of s)) (λ u. refl) term ts)
-term_ty_layer s (Ty-F.Array t c) = ap (λ u. node head.Array (type_part (apply (terms_of s) (term t)) ∷ pair (leaf head.ConstPart) u ∷ [])) (sym (const_term_folded s c))
+term_ty_layer : (s : Assignment) (x : Ty-F GenericArg Ty AliasBound TraitRef)
+    → apply (terms_of s) (ty_step (in_ty terms x)) ≡ assigned_ty s (in_ty (term_first (terms_of s)) x)
+term_ty_layer s (Ty-F.Tuple ts) =
+    apply_node (terms_of s) head.Tuple (map type_part (map term ts)) ∙ ap (node head.Tuple)
+    (type_parts_under (apply (terms_of s)) (apply (terms_of s)) (λ u. refl) term ts)
+term_ty_layer s (Ty-F.Array t c) =
+    ap (λ u. node head.Array (type_part (apply (terms_of s) (term t)) ∷ pair (leaf head.ConstPart) u ∷ [])) (sym (const_term_folded s c))
 term_ty_layer s (Ty-F.Adt id xs) = args_under (terms_of s) (head.Adt id) xs
 term_ty_layer s (Ty-F.FnDef id xs) = args_under (terms_of s) (head.FnDef id) xs
-term_ty_layer s (Ty-F.FnPtr u ts t) = apply_node (terms_of s) (head.FnPtr u) (map type_part (map term ts) ++ type_part (term t) ∷ []) ∙ ap (node (head.FnPtr u)) (inputs_under (terms_of s) ts t)
-term_ty_layer s (Ty-F.Closure id ts t) = apply_node (terms_of s) (head.Closure id) (map type_part (map term ts) ++ type_part (term t) ∷ []) ∙ ap (node (head.Closure id)) (inputs_under (terms_of s) ts t)
+term_ty_layer s (Ty-F.FnPtr u ts t) =
+    apply_node (terms_of s) (head.FnPtr u) (map type_part (map term ts) ++ type_part (term t) ∷ []) ∙ ap (node (head.FnPtr u))
+    (inputs_under (terms_of s) ts t)
+term_ty_layer s (Ty-F.Closure id ts t) =
+    apply_node (terms_of s) (head.Closure id) (map type_part (map term ts) ++ type_part (term t) ∷ []) ∙ ap (node (head.Closure id))
+    (inputs_under (terms_of s) ts t)
 term_ty_layer s (Ty-F.Dynamic None bs ids) = dynamic_under (terms_of s) (leaf head.NoPrincipal ∷ []) bs ids
 term_ty_layer s (Ty-F.Dynamic (Some r) bs ids) = dynamic_under (terms_of s) (trait_parts r) bs ids
 term_ty_layer s (Ty-F.Projection id xs) = args_under (terms_of s) (head.Projection id) xs
@@ -273,10 +337,12 @@ term_ty_layer s (Ty-F.AssociatedType id xs) = args_under (terms_of s) (head.Asso
 term_ty_layer s (Ty-F.Opaque id xs) = args_under (terms_of s) (head.Opaque id) xs
 term_ty_layer s _ = refl
 
-term_trait : (s : Hole → Term) (r : TraitRef) → map (apply s) (trait_parts r) ≡ leaf (head.Principal r.id) ∷ map (λ x. apply s (arg_term x)) r.args
+term_trait : (s : Hole → Term) (r : TraitRef)
+    → map (apply s) (trait_parts r) ≡ leaf (head.Principal r.id) ∷ map (λ x. apply s (arg_term x)) r.args
 term_trait s r = ap (map (apply s)) (trait_parts_is r) ∙ ap (◌∷◌ (leaf (head.Principal r.id))) (map_twice (apply s) arg_term r.args)
 
-term_bound : (s : Hole → Term) (b : AliasBound) → map (apply s) (bound_parts b) ≡ leaf (head.Bound b.alias) ∷ type_part (apply s (term b.ty)) ∷ []
+term_bound : (s : Hole → Term) (b : AliasBound)
+    → map (apply s) (bound_parts b) ≡ leaf (head.Bound b.alias) ∷ type_part (apply s (term b.ty)) ∷ []
 term_bound s b = ap (map (apply s)) (bound_parts_is b)
 
 term_first_follows : (s : Assignment) → GoBySteps (assigned s) (term_first (terms_of s))

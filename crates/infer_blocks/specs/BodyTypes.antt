@@ -93,4 +93,5 @@ pub record PlaceholderTyDone (g : Given) (w : TypeRefId) (t : Ty) (old new : Inf
 abbrev pub IsFirstTy : Given → TypeRefId → Ty → InferenceContext → InferenceContext → Type 0
 IsFirstTy g w t old new =
     ((recorded g.aliases w.0 ≡ Some t) × (new ≡ old))
-    ⊎ ((recorded g.aliases w.0 ≡ None) × (t ≡ ty.Var (hole_count old.goals.table)) × (new ≡ with_table old (with_new_hole old.goals.table kind.Ty)))
+    ⊎ ((recorded g.aliases w.0 ≡ None) × (t ≡ ty.Var (hole_count old.goals.table))
+    × (new ≡ with_table old (with_new_hole old.goals.table kind.Ty)))

@@ -24,7 +24,7 @@ module _ (g : Given) (s : Schedule) (n c first : ExprId) (other : Option ExprId)
   if_begins x f w = begins_parts g s n (expr.If c first other) x f (λ a. Nothing) w is
 
   part_is : (k : ℕ) → part_at g.body (inner (node.ExprId n)) k ≡ slice_get (expr_part condition c ∷ branch_parts first other) k
-  part_is k = ap (λ o. slice_get (parts_of_expr o) k) is
+  part_is k = ap (λ o. slice_get (parts_of_expr g.body o) k) is
 
   pub comes_to_condition : (x : Option Ty) (f : InferenceContext) → Within g s n x f → Before g s c (Some ty.Bool) f
   comes_to_condition x f w =

@@ -12,7 +12,8 @@ abbrev pub IsMatchOf : RawBody → ExprId → ExprId → List RawArm → Type 0
 IsMatchOf b e d arms = slice_get b.exprs e.0 ≡ Some (expr.Match d arms)
 
 -- the alternative e, of which x is expected, is typed and taken into the common type
-pub record AlternativeWalked (g : Given) (s : Schedule) (e : ExprId) (x : Option Ty) (before after : CoerceMany) (old new : Found) : Type 0 where
+pub record AlternativeWalked (g : Given) (s : Schedule) (e : ExprId) (x : Option Ty) (before after : CoerceMany)
+    (old new : Found) : Type 0 where
   pub mid : Found
   pub type : Ty
   pub own : OwnWalked g s e x type old mid
@@ -63,10 +64,12 @@ pub record BeforeArms (g : Given) (s : Schedule) (n : ExprId) (arms : List RawAr
   pub expected : IsFineExpectation g.scope c.goals.table x
 
 -- the arms have the type t in common, or a mismatch
-pub record ArmsDone (g : Given) (s : Schedule) (n : ExprId) (arms : List RawArm) (x : Option Ty) (t : Ty) (old new : InferenceContext) : Type 0 where
+pub record ArmsDone (g : Given) (s : Schedule) (n : ExprId) (arms : List RawArm) (x : Option Ty) (t : Ty)
+    (old new : InferenceContext) : Type 0 where
   pub follows : Follows g old new
   pub fine : IsFine g.scope new.goals.table t
-  pub each : (a : Assignment) → Closes a new → ArmsWalked g s n arms (expected_under a x) (folded a t) (found_under a old) (found_under a new)
+  pub each : (a : Assignment) → Closes a new
+      → ArmsWalked g s n arms (expected_under a x) (folded a t) (found_under a old) (found_under a new)
 
 -- the guard of an arm lies ahead, where it has one
 pub record BeforeGuard (g : Given) (s : Schedule) (n : ExprId) (o : Option ExprId) (c : InferenceContext) : Type 0 where
@@ -80,13 +83,16 @@ abbrev pub GuardDone : Given → Schedule → Option ExprId → InferenceContext
 GuardDone g s o old new = Does g (λ a. GuardWalked g s o) old new
 
 -- the alternative e, of which x is expected, is typed and taken into the common type
-pub record AlternativeDone (g : Given) (s : Schedule) (e : ExprId) (x : Option Ty) (before after : CoerceMany) (old new : InferenceContext) : Type 0 where
+pub record AlternativeDone (g : Given) (s : Schedule) (e : ExprId) (x : Option Ty) (before after : CoerceMany)
+    (old new : InferenceContext) : Type 0 where
   pub follows : Follows g old new
   pub fine : IsFineCommon g.scope new.goals.table after
-  pub each : (a : Assignment) → Closes a new → AlternativeWalked g s e (expected_under a x) (common_under a before) (common_under a after) (found_under a old) (found_under a new)
+  pub each : (a : Assignment) → Closes a new
+      → AlternativeWalked g s e (expected_under a x) (common_under a before) (common_under a after) (found_under a old) (found_under a new)
 
 -- the other branch of the `if` n lies ahead, where it has one, and m is the type of the first
-pub record BeforeElse (g : Given) (s : Schedule) (n : ExprId) (other : Option ExprId) (x : Option Ty) (m : CoerceMany) (c : InferenceContext) : Type 0 where
+pub record BeforeElse (g : Given) (s : Schedule) (n : ExprId) (other : Option ExprId) (x : Option Ty) (m : CoerceMany)
+    (c : InferenceContext) : Type 0 where
   pub ready : IsReady g s
   pub state : IsWalking g s c
   pub within : n.0 < length g.body.exprs
@@ -95,7 +101,9 @@ pub record BeforeElse (g : Given) (s : Schedule) (n : ExprId) (other : Option Ex
   pub common : IsFineCommon g.scope c.goals.table m
 
 -- it is taken into the common type, or `()` where there is none
-pub record ElseDone (g : Given) (s : Schedule) (n : ExprId) (other : Option ExprId) (x : Option Ty) (before after : CoerceMany) (old new : InferenceContext) : Type 0 where
+pub record ElseDone (g : Given) (s : Schedule) (n : ExprId) (other : Option ExprId) (x : Option Ty) (before after : CoerceMany)
+    (old new : InferenceContext) : Type 0 where
   pub follows : Follows g old new
   pub fine : IsFineCommon g.scope new.goals.table after
-  pub each : (a : Assignment) → Closes a new → ElseWalked g s n other (expected_under a x) (common_under a before) (common_under a after) (found_under a old) (found_under a new)
+  pub each : (a : Assignment) → Closes a new
+      → ElseWalked g s n other (expected_under a x) (common_under a before) (common_under a after) (found_under a old) (found_under a new)

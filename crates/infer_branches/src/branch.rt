@@ -3,9 +3,9 @@ ghost use Rattle.std.specs.Prelude.{IfOk};
 ghost use Rattle.infer_branches.specs.Words.{given_of, schedule_of, expected_type, scope_in, Before, Within, KindDone, IsFineCommon, InfersFrom};
 ghost use Rattle.infer_branches.specs.Own.{IsIfOf, IsMatchOf, BeforeElse, ElseDone, AlternativeDone, BeforeArms, ArmsDone, BeforeGuard, GuardDone};
 
-use infer_pat::hir_facts::{ExprId, RawArm, Ty};
-use infer_pat::infer_coerce::{CoerceMany, infer_expr_coerce};
-use infer_pat::infer_ctx::{Expectation, GivenBody, InferenceContext};
+use hir_facts::{ExprId, RawArm, Ty};
+use infer_coerce::{CoerceMany, infer_expr_coerce};
+use infer_ctx::{Expectation, GivenBody, InferenceContext};
 use infer_pat::infer_top_pat;
 use std::alloc::{AllocError, Global};
 

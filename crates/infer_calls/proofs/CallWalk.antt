@@ -5,7 +5,7 @@ use Rattle.std.proofs.lemmas.List.{length-map}
 use Rattle.infer_calls.specs.Words.{ExprId, Ty, Assignment, folded, Schedule, IsCarriedType, inner, argument, callee, expr_part, exprs_from, at_args, Grew, Given, InferenceContext, Closes, found_under, Before, Within, KindDone, Follows, OnlyBinds, OwnDone, IsSigOf, IsSigOfItem, CallableSig, IsFine, AllFine, KindWalked, Extends, IsWalked, Nothing, Owed, PaidBy, types_scope}
 use Rattle.hir_types.specs.declared.ids.ExprOrPatId.TheVariants as node
 use Rattle.infer_calls.specs.Words.hir_raw.declared.raw.RawExpr.TheVariants as expr
-use Rattle.infer_calls.proofs.Words.{grew_itself, told_beside, closes_before, walking_after, follows_itself, follows_twice, walks_paid, walks_trans, fine_grown, every_at, every_from, WalksParts, begins_parts, comes_to, goes_past, known_instance, fine_instance, instances_under, fine_instances, fine_closed, diagnostic_under, of_body_diagnostic, same_found, sound_diagnostic, extends_trans}
+use Rattle.infer_calls.proofs.Words.{arguments_in_order, grew_itself, told_beside, closes_before, walking_after, follows_itself, follows_twice, walks_paid, walks_trans, fine_grown, every_at, every_from, WalksParts, begins_parts, comes_to, goes_past, known_instance, fine_instance, instances_under, fine_instances, fine_closed, diagnostic_under, of_body_diagnostic, same_found, sound_diagnostic, extends_trans}
 use Rattle.infer_calls.specs.Words.infer_result.declared.diagnostics.InferenceDiagnostic.TheVariants as diagnostic
 use Rattle.infer_calls.specs.Words.infer_ctx.Context as context
 use Rattle.infer_calls.specs.Words.infer_ctx.Found as found
@@ -16,7 +16,9 @@ use Rattle.infer_calls.proofs.Calls.{call_done, told_loose, others_done, input_d
 module _ (g : Given) (s : Schedule) (n called : ExprId) (args : List ExprId) (c : InferenceContext) (h : Within g s n None c)
     (is : IsCallOf g.body n called args) where
   pub call_parts : WalksParts g s (inner (node.ExprId n)) (λ a. Nothing) (expr_part callee called ∷ exprs_from argument 0 args) c c
-  call_parts = begins_parts g s n (expr.Call called args) None c (λ a. Nothing) h is
+  call_parts =
+      subst (λ ps. WalksParts g s (inner (node.ExprId n)) (λ a. Nothing) (expr_part callee called ∷ ps) c c) (arguments_in_order g.body h.ready.law.carried args)
+      (begins_parts g s n (expr.Call called args) None c (λ a. Nothing) h is)
 
   pub comes_to_callee : Before g s called None c
   comes_to_callee = comes_to _ _ _ _ _ _ _ _ _ call_parts None h.ready h.state.told tt
@@ -180,7 +182,7 @@ module _ (g : Given) (s : Schedule) (n : ExprId) (args : List ExprId) (ss : List
   pub asks_inputs : (a : Assignment) → Closes a mid → AsksInputs g args (map (folded a) ss) (found_under a mid).result
   asks_inputs a q i e u found input r x =
       let b = h.before in
-      input_demand g n b.called args b.id b.item.signature (map (folded a) b.types) (found_under a mid) (b.each a q).calling i e u r x found
+      input_demand g n b.called args b.id b.item.signature (map (folded a) b.types) (found_under a mid) (b.each a q).calling b.ready.law.carried i e u r x found
       (subst (λ vs. slice_get vs i ≡ Some u) (taken_under a) input)
 
   -- ---- another number of them

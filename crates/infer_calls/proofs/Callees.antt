@@ -94,7 +94,6 @@ path_head g e (p, at, h) = by_path p at h.item h.is_item h.signature h.is_signat
   where
     by_path : (p : RawPath) → slice_get g.body.exprs e.0 ≡ Some (expr.Path p) → (id : CallableDefId) → names_item p ≡ Some id → (σ : Signature) → signature_of g.scope.facts id ≡ Some σ → HeadOf g e (other (head.FnDef id))
     by_path (path.Local v) at id names σ found = absurd (cc)
-    by_path path.Other at id names σ found = absurd (cc)
     by_path (path.Function f) at id names σ found = (let same : callable.FunctionId f ≡ id = cc in subst (λ i. HeadOf g e (other (head.FnDef i))) same (of_function e f at))
     by_path (path.Ctor v) at id names σ found =
         (let same : callable.VariantId v ≡ id = cc in

@@ -1,14 +1,14 @@
 -- What a call shows: the item that it calls, and its arguments one after another.
-use Rattle.std.proofs.Common.{List, None, ◌≡◌, ◌∷◌, sym, subst, Some, inl, inr, ℕ, suc, ◌+◌, [], ap, ◌∙◌, arith, slice_get, length, ◌<◌, ◌⊎◌, refl}
+use Rattle.std.proofs.Common.{List, None, ◌≡◌, ◌∷◌, sym, subst, Some, inl, inr, ℕ, suc, ◌+◌, [], ap, ◌∙◌, arith, slice_get, length, ◌<◌, ◌⊎◌, refl, IsTrue}
 use Rattle.std.proofs.lemmas.List.{length-map}
-use Rattle.infer_calls.specs.Words.{ExprId, CallableDefId, Ty, fn_def_tells, ExprOrPatId, folded, Schedule, type_args, Signature, signature_of, at_args, inner, argument, expr_part, exprs_from, parts_of_expr, part_at, IsCarriedType, Given, Demand, IsCallee, ArgsRule, InferenceResult, InferenceDiagnostic, at_or_mismatch, HasTy, HasDiagnostic, WasSeen, At, IsTrueDiagnostic, Seen, IsTrueSeen, has_unknown, Found, with_diagnostic, Nothing, PaidBy, Extends, Walks, IsWalked, IsSeenAs, KindWalked}
+use Rattle.infer_calls.specs.Words.{ExprId, CallableDefId, Ty, fn_def_tells, ExprOrPatId, folded, Schedule, type_args, Signature, signature_of, at_args, is_carried_body, inner, argument, arguments, expr_part, parts_of_expr, part_at, IsCarriedType, Given, Demand, IsCallee, ArgsRule, InferenceResult, InferenceDiagnostic, at_or_mismatch, HasTy, HasDiagnostic, WasSeen, At, IsTrueDiagnostic, Seen, IsTrueSeen, has_unknown, Found, with_diagnostic, Nothing, PaidBy, Extends, Walks, IsWalked, IsSeenAs, KindWalked}
 use Rattle.hir_types.specs.declared.ty.Ty.TheVariants as ty
 use Rattle.hir_types.specs.declared.ids.ExprOrPatId.TheVariants as node
 use Rattle.infer_calls.specs.Words.hir_raw.declared.raw.RawExpr.TheVariants as expr
 use Rattle.infer_calls.specs.Words.infer_result.Unknown.{IsKnown}
 use Rattle.infer_calls.specs.Words.infer_result.declared.diagnostics.InferenceDiagnostic.TheVariants as diagnostic
 use Rattle.infer_calls.specs.Words.infer_ctx.Found.{with_seen}
-use Rattle.infer_calls.proofs.Words.{walks_paid, walks_trans, expr_at, expr_id, noted-keeps, noted-cases, noted-some, length-noted, same_or_not, slice_get-append_left, slice_get-push, args_kept, callee_kept, diagnostic_kept, seen_as_kept, true_seen_kept, rule_of, push_cases, length-said_of, said_of-cases, said_of-keeps, said_of-own}
+use Rattle.infer_calls.proofs.Words.{arguments_in_order, walks_paid, walks_trans, expr_at, expr_id, noted-keeps, noted-cases, noted-some, length-noted, same_or_not, slice_get-append_left, slice_get-push, args_kept, callee_kept, diagnostic_kept, seen_as_kept, true_seen_kept, rule_of, push_cases, length-said_of, said_of-cases, said_of-keeps, said_of-own}
 use Rattle.infer_calls.specs.Own.{ComesToArgs, ComesToUncallable, IsCalling, inputs_at, ArgsWalked, ComesToLoose, LooseWalked}
 
 -- ---- what the call asks of its arguments
@@ -22,11 +22,12 @@ module _ (g : Given) (n called : ExprId) (args : List ExprId) (id : CallableDefI
   calls : (r : InferenceResult) → Extends c.result r → IsCallee g r called σ ts
   calls r k = record { item = id; has = k.exprs called _ h.has; signature = h.found }
 
-  pub input_demand : (i : ℕ) (e : ExprId) (u : Ty) (r : InferenceResult) → Extends c.result r → slice_get args i ≡ Some e → slice_get taken i ≡ Some u → Demand g r e u
-  input_demand i e u r k found input =
+  pub input_demand : IsTrue (is_carried_body g.body) → (i : ℕ) (e : ExprId) (u : Ty) (r : InferenceResult) → Extends c.result r → slice_get args i ≡ Some e → slice_get taken i ≡ Some u → Demand g r e u
+  input_demand carried i e u r k found input =
       let z : 0 + i ≡ i = omega arith in
-      let here : slice_get (exprs_from argument 0 args) i ≡ Some (expr_part (argument i) e) = expr_at argument 0 args i e found ∙ ap (λ j. Some (expr_part (argument j) e)) z in
-      let p : part_at g.body (inner (node.ExprId n)) (suc i) ≡ Some (expr_part (argument i) e) = ap (λ y. slice_get (parts_of_expr y) (suc i)) h.is_call ∙ here in
+      let here : slice_get (arguments g.body args) i ≡ Some (expr_part (argument i) e)
+      = ap (λ ps. slice_get ps i) (arguments_in_order g.body carried args) ∙ (expr_at argument 0 args i e found ∙ ap (λ j. Some (expr_part (argument j) e)) z) in
+      let p : part_at g.body (inner (node.ExprId n)) (suc i) ≡ Some (expr_part (argument i) e) = ap (λ y. slice_get (parts_of_expr g.body y) (suc i)) h.is_call ∙ here in
       inl (record {
         parent = inner (node.ExprId n);
         at_part = suc i;

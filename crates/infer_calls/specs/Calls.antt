@@ -21,14 +21,16 @@ abbrev pub inputs_at : Signature → List Ty → List Ty
 inputs_at σ ts = map (at_args ts) σ.inputs
 
 -- The node is a call of the item, at the types ts, which has come to its arguments.
-pub record IsCalling (g : Given) (n called : ExprId) (args : List ExprId) (id : CallableDefId) (σ : Signature) (ts : List Ty) (c : Found) : Type 0 where
+pub record IsCalling (g : Given) (n called : ExprId) (args : List ExprId) (id : CallableDefId) (σ : Signature) (ts : List Ty)
+    (c : Found) : Type 0 where
   pub is_call : IsCallOf g.body n called args
   pub within : n.0 < length g.body.exprs
   pub found : signature_of g.scope.facts id ≡ Some σ
   pub has : HasTy c.result called (ty.FnDef id (type_args ts))
 
 -- The arguments of the call n lie ahead, after what is called.
-pub record ComesToArgs (g : Given) (s : Schedule) (n called : ExprId) (args : List ExprId) (id : CallableDefId) (σ : Signature) (ts : List Ty) (c : Found) : Type 0 where
+pub record ComesToArgs (g : Given) (s : Schedule) (n called : ExprId) (args : List ExprId) (id : CallableDefId) (σ : Signature)
+    (ts : List Ty) (c : Found) : Type 0 where
   pub ready : IsReady g s
   pub state : IsWalked g s c
   pub calling : IsCalling g n called args id σ ts c
@@ -58,7 +60,8 @@ pub record ComesToUncallable (g : Given) (s : Schedule) (n called : ExprId) (arg
 -- each of the arguments is asked to be at its one of these types, as far as there is one
 abbrev pub AsksInputs : Given → List ExprId → List Ty → InferenceResult → Type 0
 AsksInputs g args ss r =
-    (i : ℕ) (e : ExprId) (t : Ty) → slice_get args i ≡ Some e → slice_get ss i ≡ Some t → (later : InferenceResult) → Extends r later → Demand g later e t
+    (i : ℕ) (e : ExprId) (t : Ty) → slice_get args i ≡ Some e → slice_get ss i ≡ Some t → (later : InferenceResult) → Extends r later
+    → Demand g later e t
 
 -- they are typed
 pub record LooseWalked (g : Given) (s : Schedule) (n : ExprId) (old new : Found) : Type 0 where

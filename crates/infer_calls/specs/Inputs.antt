@@ -21,7 +21,8 @@ AreFineInputs sc state None = Unit {0}
 AreFineInputs sc state (Some ss) = AllFine sc state ss
 
 -- they are found, and nothing else is found out
-pub record FindsInputs (g : Given) (x : Option Ty) (inputs : List Ty) (output : Ty) (wanted : Option (List Ty)) (old new : InferenceContext) : Type 0 where
+pub record FindsInputs (g : Given) (x : Option Ty) (inputs : List Ty) (output : Ty) (wanted : Option (List Ty))
+    (old new : InferenceContext) : Type 0 where
   pub binds : OnlyBinds g old new
   pub are : AreExpectedInputs old.goals.table x inputs output wanted
   pub fine : AreFineInputs g.scope new.goals.table wanted
@@ -31,7 +32,8 @@ pub record ExpectsInputs (g : Given) (x : Option Ty) (inputs : List Ty) (output 
   pub binds : OnlyBinds g old new
   pub wanted : Option (List Ty)
   pub are : AreExpectedInputs old.goals.table x inputs output wanted
-  pub each : (ss : List Ty) → wanted ≡ Some ss → (i : ℕ) (t u : Ty) → slice_get inputs i ≡ Some t → slice_get ss i ≡ Some u → SameOrDiffer new t u
+  pub each : (ss : List Ty) → wanted ≡ Some ss → (i : ℕ) (t u : Ty) → slice_get inputs i ≡ Some t → slice_get ss i ≡ Some u
+      → SameOrDiffer new t u
 
 -- what the call gives was made equal with the type e, and it takes what it did; or it was refused
 abbrev pub IsTried : {E : Type 0} → List Ty → Ty → Ty → State → State → Result (List Ty) E → Type 0

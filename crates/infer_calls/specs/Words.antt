@@ -11,8 +11,8 @@ pub use Rattle.hir_types.specs.declared.ty.AliasBound.{AliasBound}
 pub use Rattle.hir_types.specs.declared.ty.GenericArg.{GenericArg}
 pub use Rattle.hir_types.specs.declared.ty.TraitRef.{TraitRef}
 pub use Rattle.hir_types.specs.declared.ty.Ty.{Ty, Ty-F, out-Ty, out-roll-Ty}
-pub use Rattle.infer_obligations.specs.Words.{after, argument, callee, expr_part, exprs_from, inner, part_at, parts_of_expr, Scope, has_params, names_item, types_scope, Signature, at_args, signature_of, type_args, RawBody, RawExpr, RawPath, Schedule}
-pub use Rattle.infer_obligations.specs.Words.{IsCarriedType}
+pub use Rattle.infer_obligations.specs.Words.{after, argument, arguments, callee, expr_part, exprs_from, inner, part_at, parts_of_expr, Scope, has_params, names_item, types_scope, Signature, at_args, signature_of, type_args, RawBody, RawExpr, RawPath, Schedule}
+pub use Rattle.infer_obligations.specs.Words.{is_carried_body, IsCarriedType}
 pub use Rattle.infer_obligations.specs.Words.{AllOf, IsLawfulState, apply_resolved_term, resolution, AreOf, AreRefused, AreUnified, CanBeEqual, Grew, HolesAreOf, State, bindings, hole_count, resolved_type, GoesBack, IsResolvedOr, NoUnifier}
 pub use Rattle.infer_obligations.specs.Words.{asked_goal}
 pub use Rattle.infer_obligations.specs.Words.{stays_with}

@@ -4,11 +4,11 @@ ghost use Rattle.infer_calls.specs.Words.{IsOfBody, IsSound, given_of, scope_in,
 ghost use Rattle.infer_calls.specs.Own.{IsCallOf, CalleeTyped, BeforeCall, BeforeInputs, ArgsDone, BeforeUncallable, BeforeLoose, LooseDone, AreMet, EndsInSelection, EndsInReading};
 
 use crate::inputs::expect_inputs;
-use infer_obligations::hir_facts::{ExprId, ExprOrPatId, Goal, Ty};
-use infer_obligations::infer_coerce::{infer_expr_coerce, unify};
-use infer_obligations::infer_ctx::{CallableSig, Expectation, GivenBody, InferenceContext};
-use infer_obligations::infer_result::{InferenceDiagnostic, Seen, callee_needs};
+use hir_facts::{ExprId, ExprOrPatId, Goal, Ty};
+use infer_coerce::{infer_expr_coerce, unify};
+use infer_ctx::{CallableSig, Expectation, GivenBody, InferenceContext};
 use infer_obligations::{read_for, select_and_read, select_obligations_where_possible};
+use infer_result::{InferenceDiagnostic, Seen, callee_needs};
 use std::alloc::{AllocError, Global};
 
 /// The type of a call: `infer/expr.rs`, `infer_call`.

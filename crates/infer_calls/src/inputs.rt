@@ -3,10 +3,10 @@ ghost use Rattle.std.specs.Prelude.{IfOk};
 ghost use Rattle.infer_calls.specs.Words.{IsOfBody, HolesAreOf, Grew, IsSound, given_of, scope_in, expected_type, IsFine, AllFine, IsFineExpectation};
 ghost use Rattle.infer_calls.specs.Own.{FindsInputs, ExpectsInputs, IsTried};
 
-use infer_obligations::hir_facts::{List, Ty};
-use infer_obligations::infer_coerce::{copies, unify_all};
-use infer_obligations::infer_ctx::{Expectation, GivenBody, InferenceContext};
-use infer_obligations::infer_table::{InferenceTable, NoUnifier};
+use hir_facts::{List, Ty};
+use infer_coerce::{copies, unify_all};
+use infer_ctx::{Expectation, GivenBody, InferenceContext};
+use infer_table::{InferenceTable, NoUnifier};
 use std::alloc::{AllocError, Global};
 
 /// Makes what a call takes equal with what is expected of its arguments, where something is: the

@@ -43,12 +43,14 @@ ComesUnder (Ok r) e source target old new = IsCoercedOrNot e source target old n
 ComesUnder (Err x) e source target old new = (target ≡ source → ⊥) × (new ≡ old)
 
 -- what a coercion of the expression from the type `source` to `target` answers, and what comes of it
-pub record IsCoercion (answer : Result Coerced NotCoercible) (g : Given) (e : ExprId) (source target : Ty) (old new : InferenceContext) : Type 0 where
+pub record IsCoercion (answer : Result Coerced NotCoercible) (g : Given) (e : ExprId) (source target : Ty)
+    (old new : InferenceContext) : Type 0 where
   pub follows : Follows g old new
   pub clock : new.clock ≡ old.clock
   pub answers : CoercionAnswers answer source target
   pub comes : Comes answer g e source target old new
-  pub each : (a : Assignment) → Closes a new → ComesUnder answer e (folded a source) (folded a target) (found_under a old) (found_under a new)
+  pub each : (a : Assignment) → Closes a new
+      → ComesUnder answer e (folded a source) (folded a target) (found_under a old) (found_under a new)
 
 -- what it says of an assignment that a coercion could be made
 abbrev pub Says : Bool → Bool → Type 0
@@ -62,4 +64,5 @@ pub record IsCoerced (could : Bool) (g : Given) (e : ExprId) (actual target : Ty
   pub follows : Follows g old new
   pub clock : new.clock ≡ old.clock
   pub comes : could ≡ true → IsUnifiedIf true g actual target old new ⊎ Waits e actual target old new
-  pub each : (a : Assignment) → Closes a new → (fits : Bool) × Says could fits × IsCoercedIf fits e (folded a actual) (folded a target) (found_under a old) (found_under a new)
+  pub each : (a : Assignment) → Closes a new → (fits : Bool) × Says could fits
+      × IsCoercedIf fits e (folded a actual) (folded a target) (found_under a old) (found_under a new)

@@ -15,7 +15,8 @@ common_under a common.Unknown = common.Unknown
 -- What the next alternative e, of type t, makes of the common type. It stays also where e is found later to differ from it.
 abbrev pub MergesInto : ExprId → Ty → CoerceMany → CoerceMany → Found → Found → Type 0
 MergesInto e t common.Nothing m old new = (m ≡ common.Is t) × (new ≡ old)
-MergesInto e t (common.Is u) m old new = ((m ≡ common.Is u) × IsCoercedOrNot e t u old new) ⊎ ((m ≡ common.Unknown) × IsCoercedIf false e t u old new)
+MergesInto e t (common.Is u) m old new =
+    ((m ≡ common.Is u) × IsCoercedOrNot e t u old new) ⊎ ((m ≡ common.Unknown) × IsCoercedIf false e t u old new)
 MergesInto e t common.Unknown m old new = (m ≡ common.Unknown) × (new ≡ old)
 
 abbrev pub common_of : Option Ty → CoerceMany
@@ -45,7 +46,8 @@ pub record Merges (g : Given) (e : ExprId) (t : Ty) (before after : CoerceMany) 
   pub clock : new.clock ≡ old.clock
   pub fine : IsFineCommon g.scope new.goals.table after
   pub coerced_to : (u : Ty) → before ≡ common.Is u → (could : Bool) × IsCoerced could g e t u old new × (after ≡ common_after could u)
-  pub each : (a : Assignment) → Closes a new → MergesInto e (folded a t) (common_under a before) (common_under a after) (found_under a old) (found_under a new)
+  pub each : (a : Assignment) → Closes a new
+      → MergesInto e (folded a t) (common_under a before) (common_under a after) (found_under a old) (found_under a new)
 
 -- the type of a node whose alternatives came to this, where x is expected of them: a hole that is new
 -- where that is nothing known

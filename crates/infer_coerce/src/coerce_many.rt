@@ -4,7 +4,7 @@ ghost use Rattle.infer_coerce.specs.Words.{unit, IsOfBody, given_of, scope_in, e
 ghost use Rattle.infer_coerce.specs.Own.{IsFineCommon, Merges, Completes, common_of};
 
 use crate::coercion::demand_coerce;
-use infer_ctx::hir_facts::{ExprId, List, Ty};
+use hir_facts::{ExprId, List, Ty};
 use infer_ctx::{Expectation, GivenBody, InferenceContext};
 use std::alloc::{AllocError, Global};
 

@@ -5,9 +5,9 @@ ghost use Rattle.infer_coerce.specs.Words.{IsUnknownPair, waiting, mismatch, IsO
 ghost use Rattle.infer_coerce.specs.Own.{IsCoercion, IsCoerced, MayWait};
 
 use crate::unification::unify;
-use infer_ctx::hir_facts::{ExprId, ExprOrPatId, Ty};
-use infer_ctx::infer_result::TypeMismatch;
+use hir_facts::{ExprId, ExprOrPatId, Ty};
 use infer_ctx::{GivenBody, InferenceContext};
+use infer_result::TypeMismatch;
 use std::alloc::{AllocError, Global};
 use thiserror::Error;
 

@@ -1,7 +1,7 @@
 //! Copies of types.
 ghost use Rattle.std.specs.Prelude.{◌≡◌, IfOk};
 
-use infer_ctx::hir_facts::{List, Ty};
+use hir_facts::{List, Ty};
 use std::alloc::{AllocError, Global};
 
 /// An equal copy of each type, within the limits of `Ty::dup`.

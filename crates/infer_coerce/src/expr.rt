@@ -4,9 +4,9 @@ ghost use Rattle.infer_coerce.specs.Words.{given_of, schedule_of, expected_type,
 ghost use Rattle.infer_coerce.specs.Own.{InfersFrom};
 
 use crate::coercion::{Coerced, NotCoercible, coerce};
-use infer_ctx::hir_facts::{ExprId, Ty};
-use infer_ctx::infer_result::TypeMismatch;
+use hir_facts::{ExprId, Ty};
 use infer_ctx::{Expectation, GivenBody, InferenceContext};
+use infer_result::TypeMismatch;
 use std::alloc::{AllocError, Global};
 
 /// Types an expression and coerces it to what is expected: `infer/expr.rs`, `infer_expr_coerce`.

@@ -12,8 +12,4 @@ pub use coerce_many::CoerceMany;
 pub use coercion::{Coerced, NotCoercible, coerce, demand_coerce};
 pub use copied::copies;
 pub use expr::infer_expr_coerce;
-pub use infer_ctx;
-pub use infer_ctx::{
-    goal_facts, goal_terms, hir_facts, hir_raw, infer_goals, infer_result, infer_table,
-};
 pub use unification::{unify, unify_all, unify_known, unify_unknown};

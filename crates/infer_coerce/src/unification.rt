@@ -3,9 +3,9 @@ ghost use Rattle.std.specs.Prelude.{◌≡◌, IfOk, length, true};
 ghost use Rattle.infer_coerce.specs.Words.{IsOfBody, IsSound, given_of, scope_in, IsFine, AllFine, AreFinePairs};
 ghost use Rattle.infer_coerce.specs.Own.{IsUnifiedIf, NoneIsKnown, UnifiesAll, UnifiesNext, UnifiesKnown, UnifiesEach, Settles};
 
-use infer_ctx::hir_facts::Ty;
-use infer_ctx::infer_table::WaitingPair;
+use hir_facts::Ty;
 use infer_ctx::{GivenBody, InferenceContext};
+use infer_table::WaitingPair;
 use std::alloc::AllocError;
 
 /// Makes two types equal, or changes nothing where no types for holes make them so. Then the

@@ -22,7 +22,7 @@ pub record WalksParts (g : Given) (s : Schedule) (n : Node) (P : Assignment → 
   pub each : (a : Assignment) → Closes a c → InParts g s n (P a) ps (found_under a mid) (found_under a c)
 
 -- the walk has come to an expression of this kind: all its parts lie ahead
-pub begins_parts : (g : Given) (s : Schedule) (n : ExprId) (y : RawExpr) (x : Option Ty) (c : InferenceContext) (P : Assignment → Debt) → Within g s n x c → slice_get g.body.exprs n.0 ≡ Some y → WalksParts g s (inner (node.ExprId n)) P (expr_parts y) c c
+pub begins_parts : (g : Given) (s : Schedule) (n : ExprId) (y : RawExpr) (x : Option Ty) (c : InferenceContext) (P : Assignment → Debt) → Within g s n x c → slice_get g.body.exprs n.0 ≡ Some y → WalksParts g s (inner (node.ExprId n)) P (expr_parts g.body y) c c
 begins_parts g s n y x c P h is =
     let p = expr_ahead g.body s n y c.clock h.ready.law.schedule h.within is h.clock in
     record {

@@ -164,7 +164,6 @@ module _ (g : Given) (a b : InferenceResult) (x : Extends a b) where
   rule_kept n (Some (expr.Path (path.Local v))) (t, h, k) = (t, x.exprs n t h, x.bindings v t k)
   rule_kept n (Some (expr.Path (path.Function f))) (ts, h, k) = (ts, x.exprs n _ h, k)
   rule_kept n (Some (expr.Path (path.Ctor v))) (t, h, k, r) = (t, x.exprs n t h, k, x.expr_variants n v r)
-  rule_kept n (Some (expr.Path path.Other)) h = h
   rule_kept n (Some (expr.Tuple es)) (ts, h, k) = (ts, x.exprs n _ h, all_kept es ts k)
   rule_kept n (Some (expr.Block label stmts last)) h = record {
     statements = stmts_kept stmts h.statements;
@@ -196,7 +195,7 @@ module _ (g : Given) (a b : InferenceResult) (x : Extends a b) where
         | inr q ↦ inr (q, (at_args ts σ.output, has))
       ]
   rule_kept n (Some (expr.Call f args)) (inr (q, (t, l))) = inr (x.seen n q, (t, x.exprs n t l))
-  rule_kept n (Some expr.Other) h = h
+  rule_kept n (Some (expr.Later later)) h = h
 
   pub obeys_kept : (n : ExprId) → ObeysOrMismatch g a n → ObeysOrMismatch g b n
   obeys_kept n h = rule_kept n (slice_get g.body.exprs n.0) h
@@ -237,9 +236,8 @@ module _ (g : Given) (a b : InferenceResult) (x : Extends a b) where
   pat_kept p (Some (pat.Path (path.Ctor v))) (t, h, k, r) = (t, x.pats p t h, k, x.pat_variants p v r)
   pat_kept p (Some (pat.Path (path.Local v))) h = h
   pat_kept p (Some (pat.Path (path.Function f))) h = h
-  pat_kept p (Some (pat.Path path.Other)) h = h
   pat_kept p (Some (pat.Lit e)) (t, h, k) = (t, x.pats p t h, x.exprs e t k)
-  pat_kept p (Some pat.Other) h = h
+  pat_kept p (Some (pat.Later later)) h = h
 
   pub diagnostic_kept : (e : ExprId) (d : InferenceDiagnostic) → IsTrueDiagnostic g a e d → IsTrueDiagnostic g b e d
   diagnostic_kept e (diagnostic.MismatchedTupleStructPatArgCount n expected found) h = h

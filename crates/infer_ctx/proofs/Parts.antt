@@ -76,12 +76,12 @@ module _ (b : RawBody) (s : Schedule) (n : Node) where
   ahead_start law h = record { node_is = h; fit = law.fits n h; stand = λ k p e. (k, e) }
 
 -- the parts of an expression of this kind
-pub expr_ahead : (b : RawBody) (s : Schedule) (e : ExprId) (x : RawExpr) (from : ℕ) → IsSchedule b s → e.0 < length b.exprs → slice_get b.exprs e.0 ≡ Some x → from ≡ expr_start b s e + 1 → LieAhead b s (inner (node.ExprId e)) from (expr_parts x) × (after b s from (expr_parts x) ≡ expr_end b s e)
+pub expr_ahead : (b : RawBody) (s : Schedule) (e : ExprId) (x : RawExpr) (from : ℕ) → IsSchedule b s → e.0 < length b.exprs → slice_get b.exprs e.0 ≡ Some x → from ≡ expr_start b s e + 1 → LieAhead b s (inner (node.ExprId e)) from (expr_parts b x) × (after b s from (expr_parts b x) ≡ expr_end b s e)
 expr_ahead b s e x from law h is at =
     let n : Node = inner (node.ExprId e) in
-    let p : parts_of_expr (slice_get b.exprs e.0) ≡ expr_parts x = ap (λ o. parts_of_expr o) is in (
-      subst (λ k. LieAhead b s n k (expr_parts x)) (sym at) (subst (λ ps. LieAhead b s n (expr_start b s e + 1) ps) p (ahead_start b s n law h)),
-      subst (λ k. after b s k (expr_parts x) ≡ expr_end b s e) (sym at) (subst (λ ps. after b s (expr_start b s e + 1) ps ≡ expr_end b s e) p (law.ends n h)),
+    let p : parts_of_expr b (slice_get b.exprs e.0) ≡ expr_parts b x = ap (λ o. parts_of_expr b o) is in (
+      subst (λ k. LieAhead b s n k (expr_parts b x)) (sym at) (subst (λ ps. LieAhead b s n (expr_start b s e + 1) ps) p (ahead_start b s n law h)),
+      subst (λ k. after b s k (expr_parts b x) ≡ expr_end b s e) (sym at) (subst (λ ps. after b s (expr_start b s e + 1) ps ≡ expr_end b s e) p (law.ends n h)),
     )
 
 pub expr_before : (g : Given) (s : Schedule) (n : Node) (role : Role) (e : ExprId) (ps : List Part) (x : Option Ty) (c : Found) → IsReady g s → IsWalked g s c → LieAhead g.body s n c.clock (expr_part role e ∷ ps) → IsCarriedExpectation x → ComesTo g s e x c

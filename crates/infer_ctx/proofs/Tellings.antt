@@ -57,7 +57,6 @@ abbrev UpPath : Given → ExprId → RawPath → Ty → Type 0
 UpPath g e (path.Local v) s = LocalUp g e s
 UpPath g e (path.Function f) s = ⊥
 UpPath g e (path.Ctor v) s = (x : RawVariant) × NamesUnit g e x × (s ≡ ty.Adt x.adt [])
-UpPath g e path.Other s = ⊥
 
 abbrev UpAs : Given → ExprId → Option RawExpr → Ty → Type 0
 UpAs g e (Some (expr.Lit l)) s = IsOwnType l s
@@ -69,7 +68,6 @@ abbrev HeadPath : Given → ExprId → RawPath → Outermost → Type 0
 HeadPath g e (path.Local v) h = LocalHead g e h
 HeadPath g e (path.Function f) h = h ≡ other (head.FnDef (callable.FunctionId f))
 HeadPath g e (path.Ctor v) h = (x : RawVariant) × (ts : List Ty) × (slice_get g.scope.facts.variants v.0 ≡ Some x) × HasHead (ctor_type x v ts) h
-HeadPath g e path.Other h = ⊥
 
 -- the heads that the rules beside `of_up` give
 abbrev HeadAs : Given → ExprId → Option RawExpr → Outermost → Type 0

@@ -51,7 +51,6 @@ literal_closed a (literal.Bool b) s own = closed_by a s ty.Bool own (replaced_bo
 literal_closed a (literal.Char c) s own = closed_by a s ty.Char own (replaced_char (with_holes a))
 literal_closed a (literal.Int digits (Some suffix)) s own = closed_by a s (integer_type suffix) own (integer_closed a suffix)
 literal_closed a (literal.Int digits None) s own = absurd own
-literal_closed a literal.Other s own = absurd own
 
 -- ---- types that expressions have by themselves
 

@@ -39,4 +39,3 @@ carried_literal (literal.Bool b) t h = subst (λ u. IsCarriedType u) (sym h) car
 carried_literal (literal.Char c) t h = subst (λ u. IsCarriedType u) (sym h) carried_char
 carried_literal (literal.Int digits (Some suffix)) t h = subst (λ u. IsCarriedType u) (sym h) (carried_integer suffix)
 carried_literal (literal.Int digits None) t h = subst (λ u. IsCarriedType u) (sym h.1) (carried_integer h.0)
-carried_literal literal.Other t h = absurd h

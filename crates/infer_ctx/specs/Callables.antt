@@ -42,7 +42,8 @@ pub record IsSigOf (σ : Signature) (ts : List Ty) (sig : CallableSig) : Type 0 
 
 -- it is what the item of this type takes and gives
 abbrev pub IsSigOfItem : RawFacts → Ty → CallableSig → Type 0
-IsSigOfItem facts t sig = (id : CallableDefId) (ts : List Ty) (σ : Signature) → t ≡ ty.FnDef id (type_args ts) → signature_of facts id ≡ Some σ → length ts ≡ σ.params → IsSigOf σ ts sig
+IsSigOfItem facts t sig = (id : CallableDefId) (ts : List Ty) (σ : Signature) → t ≡ ty.FnDef id (type_args ts)
+    → signature_of facts id ≡ Some σ → length ts ≡ σ.params → IsSigOf σ ts sig
 
 -- where the type is that of an item, that can be called
 abbrev pub ItemsAreCallable : RawFacts → Ty → Type 0

@@ -12,7 +12,14 @@ use Rattle.infer_ctx.specs.declared.expectation.Expectation.TheVariants as expec
 
 -- ---- what is read
 abbrev pub given_of : GivenBody → Given
-given_of x = record { scope = scope_of x.facts.now x.owner; body = x.body.now; inputs = x.inputs.now; output = x.return_ty.now; aliases = x.aliases.now }
+given_of x = record {
+  scope = scope_of x.facts.now x.owner;
+  body = x.body.now;
+  inputs = x.inputs.now;
+  output = x.return_ty.now;
+  aliases =
+      x.aliases.now;
+}
 
 -- what the types of the body may name
 abbrev pub scope_in : GivenBody → Scope

@@ -60,7 +60,10 @@ with_binding_ty c v t = record c { result = writes.binding_ty c.result v t }
 
 -- the look-up failed, which is said unless `{unknown}` stands in its type
 abbrev pub with_seen : Found → Seen → Found
-with_seen c x = record c { result = record c.result { seen = c.result.seen ++ x ∷ []; expr_diagnostics = said_of c.holes c.result.expr_diagnostics x } }
+with_seen c x = record c {
+  result =
+      record c.result { seen = c.result.seen ++ x ∷ []; expr_diagnostics = said_of c.holes c.result.expr_diagnostics x };
+}
 
 -- the pattern p of type t binds v by move
 abbrev pub bound_by : Found → PatId → BindingId → Ty → Found

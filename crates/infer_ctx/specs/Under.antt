@@ -25,18 +25,20 @@ pub record IsVariant (facts : RawFacts) (v : VariantId) : Type 0 where
   pub found : slice_get facts.variants v.0 ≡ Some variant
   pub params : ℕ
   pub count : adt_params facts variant.adt ≡ Some params
-  pub fields : (k : ℕ) (t : Ty) → slice_get (taken_types facts.types params variant) k ≡ Some t → IsCarriedIn (types_scope facts (variant_arity facts.types variant params)) t
+  pub fields : (k : ℕ) (t : Ty) → slice_get (taken_types facts.types params variant) k ≡ Some t
+      → IsCarriedIn (types_scope facts (variant_arity facts.types variant params)) t
   pub unnamed : (variant.ctor ≡ ctor.Unit) ⊎ (variant.ctor ≡ ctor.Tuple)
   pub unit : variant.ctor ≡ ctor.Unit → variant_aliases facts.types variant ≡ []
 
--- each type that a `let` of the body is written with is one of the facts', what is known of an associated type in it and the type of a parameter
--- are in scope, each function and constructor that
--- is named exists, and so does each item that has a signature
+-- each type that a `let` of the body is written with is one of the facts', what is known of an associated type in it and the type of a
+-- parameter are in scope, each function and constructor that is named exists, and so does each item that has a signature
 pub record WrittenExist (g : Given) : Type 0 where
-  pub lets : (e : ExprId) (i : ℕ) (p : PatId) (w : TypeRefId) (init other : Option ExprId) → stmt_at g.body e i ≡ Some (stmt.Let p (Some w) init other) → FitsThere g.scope.facts g.scope.params w.0
+  pub lets : (e : ExprId) (i : ℕ) (p : PatId) (w : TypeRefId) (init other : Option ExprId)
+      → stmt_at g.body e i ≡ Some (stmt.Let p (Some w) init other) → FitsThere g.scope.facts g.scope.params w.0
   pub aliases : (k : ℕ) (t : Ty) → recorded g.aliases k ≡ Some t → IsCarriedIn g.scope t
   pub inputs : (i : ℕ) (t : Ty) → slice_get g.inputs i ≡ Some (Some t) → IsCarriedIn g.scope t
-  pub functions : (e : ExprId) (f : FunctionId) → slice_get g.body.exprs e.0 ≡ Some (expr.Path (path.Function f)) → IsItem g.scope.facts (callable.FunctionId f)
+  pub functions : (e : ExprId) (f : FunctionId) → slice_get g.body.exprs e.0 ≡ Some (expr.Path (path.Function f))
+      → IsItem g.scope.facts (callable.FunctionId f)
   pub constructors : (e : ExprId) (v : VariantId) → NamesVariant g.body e v → IsVariant g.scope.facts v
   pub patterns : (p : PatId) (v : VariantId) → IsVariantPat g.body p v → IsVariant g.scope.facts v
   pub items : (id : CallableDefId) (σ : Signature) → signature_of g.scope.facts id ≡ Some σ → IsItem g.scope.facts id

@@ -46,7 +46,8 @@ IsCarriedTable r = AllTypes IsCarriedType r
 pub record IsSeenAs (g : Given) (c : Found) (x : Seen) : Type 0 where
   pub is_true : IsTrueSeen g c.result x
   pub is_said : IsSaid g c.result x
-  pub recorded : (call called : ExprId) (args : List ExprId) → x.node ≡ node.ExprId call → slice_get g.body.exprs call.0 ≡ Some (expr.Call called args) → HasTy c.result called (folded c.holes x.ty)
+  pub recorded : (call called : ExprId) (args : List ExprId) → x.node ≡ node.ExprId call
+      → slice_get g.body.exprs call.0 ≡ Some (expr.Call called args) → HasTy c.result called (folded c.holes x.ty)
 
 -- The state of the walk: each type is of a carried kind, what has a mode binds a name, each complaint other than a mismatch is true, the
 -- constructors that are named are recorded, a type is recorded for a `_` alone, each look-up that failed is so and is said, nothing is
@@ -77,13 +78,19 @@ Debt = ExprId → TypeMismatch → Type 0
 pub record Walks (g : Given) (s : Schedule) (P : Debt) (old new : Found) : Type 0 where
   pub clock : old.clock ≤ new.clock
   pub extends : Extends old.result new.result
-  pub kept : (e : ExprId) → e.0 < length g.body.exprs → expr_start g.body s e < old.clock → slice_get new.result.type_of_expr e.0 ≡ slice_get old.result.type_of_expr e.0
-  pub kept_pats : (p : PatId) → p.0 < length g.body.pats → pat_start g.body s p < old.clock → slice_get new.result.type_of_pat p.0 ≡ slice_get old.result.type_of_pat p.0
+  pub kept : (e : ExprId) → e.0 < length g.body.exprs → expr_start g.body s e < old.clock
+      → slice_get new.result.type_of_expr e.0 ≡ slice_get old.result.type_of_expr e.0
+  pub kept_pats : (p : PatId) → p.0 < length g.body.pats → pat_start g.body s p < old.clock
+      → slice_get new.result.type_of_pat p.0 ≡ slice_get old.result.type_of_pat p.0
   pub state : IsWalked g s new
-  pub made : (e : ExprId) → e.0 < length g.body.exprs → old.clock ≤ expr_start g.body s e → expr_start g.body s e < new.clock → ObeysOrMismatch g new.result e
-  pub pats_made : (p : PatId) → p.0 < length g.body.pats → old.clock ≤ pat_start g.body s p → pat_start g.body s p < new.clock → PatRule g new.result p (slice_get g.body.pats p.0)
-  pub truths : (e : ExprId) (m : TypeMismatch) → At new.result.expr_mismatches e.0 m → At old.result.expr_mismatches e.0 m ⊎ (IsMisfit g new.result e m × (Demand g new.result e m.expected ⊎ P e m))
-  pub pat_truths : (p : PatId) (m : TypeMismatch) → At new.result.pat_mismatches p.0 m → At old.result.pat_mismatches p.0 m ⊎ IsTruePatMismatch g new.result p m
+  pub made : (e : ExprId) → e.0 < length g.body.exprs → old.clock ≤ expr_start g.body s e → expr_start g.body s e < new.clock
+      → ObeysOrMismatch g new.result e
+  pub pats_made : (p : PatId) → p.0 < length g.body.pats → old.clock ≤ pat_start g.body s p → pat_start g.body s p < new.clock
+      → PatRule g new.result p (slice_get g.body.pats p.0)
+  pub truths : (e : ExprId) (m : TypeMismatch) → At new.result.expr_mismatches e.0 m → At old.result.expr_mismatches e.0 m
+      ⊎ (IsMisfit g new.result e m × (Demand g new.result e m.expected ⊎ P e m))
+  pub pat_truths : (p : PatId) (m : TypeMismatch) → At new.result.pat_mismatches p.0 m → At old.result.pat_mismatches p.0 m
+      ⊎ IsTruePatMismatch g new.result p m
 
 -- ---- debts
 abbrev pub Nothing : ExprId → TypeMismatch → Type 0

@@ -4,11 +4,11 @@ ghost use Rattle.infer_ctx.specs.Words.{new_state, IsUnused};
 ghost use Rattle.infer_ctx.specs.Own.{noted, put, path_variant, expr_variant, pat_variant, IsNoted, IsUnasked, empty_context, with_placeholder_ty, with_seen, with_expr_ty, with_mismatch, with_asked, with_diagnostic, with_pat_mismatch, with_pat_diagnostic, with_pat_ty, with_pat_item, with_mode, with_binding_ty};
 ghost use Rattle.infer_ctx.specs.Context.{entered};
 
-use infer_goals::GoalTable;
-use infer_goals::hir_facts::{
+use hir_facts::{
     BindingId, ExprId, Facts, GenericDefId, List, PatId, RawBody, RawExpr, RawPat, RawPath, Ty,
     TypeRefId, VariantId,
 };
+use infer_goals::GoalTable;
 use infer_result::{BindingMode, InferenceDiagnostic, InferenceResult, Seen, TypeMismatch};
 use std::alloc::{AllocError, Global};
 
@@ -44,7 +44,7 @@ fn path_variant(path: RawPath) -> Option<VariantId>
 {
     match path {
         RawPath::Ctor(variant) => Some(variant),
-        RawPath::Local(_) | RawPath::Function(_) | RawPath::Other => None,
+        RawPath::Local(_) | RawPath::Function(_) => None,
     }
 }
 

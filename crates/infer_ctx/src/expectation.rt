@@ -3,8 +3,8 @@ ghost use Rattle.std.specs.Prelude.{◌≡◌, slice_get};
 ghost use Rattle.std.specs.Option.{option_copied};
 ghost use Rattle.infer_ctx.specs.Own.{expected_type, element_type, known_or, of_alternatives, of_arms};
 
-use infer_goals::hir_facts::Ty;
-use infer_goals::infer_table::InferenceTable;
+use hir_facts::Ty;
+use infer_table::InferenceTable;
 
 /// What is expected of an expression's type: `infer.rs`, `Expectation`.
 #[derive(Clone, Copy)]

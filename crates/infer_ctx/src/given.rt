@@ -5,11 +5,11 @@ ghost use Rattle.hir_types.specs.declared.ty.Ty.TheVariants as ty;
 ghost use Rattle.infer_ctx.specs.Own.{expected_type, written_at, field_at, ctor_at, IsFnSig, IsCtorSig, IsCallableItem, IsSigOfItem, ItemsAreCallable, IsSigIfItem};
 
 use crate::expectation::Expectation;
-use hir_types::{CallableDefId, GenericArg, instantiate};
-use infer_goals::hir_facts::{
+use hir_facts::{
     DefWithBodyId, Facts, FunctionId, List, RawBody, RawFn, Schedule, Ty, TypeRefId, VariantId,
     fn_aliases, lower_opened, lower_ty, variant_aliases,
 };
+use hir_types::{CallableDefId, GenericArg, instantiate};
 use std::alloc::{AllocError, Global};
 
 /// A body among its facts: what `infer.rs`'s `InferenceContext` reads of its `db`, its `owner`, its

@@ -9,6 +9,3 @@ mod resolve_all;
 pub use context::{InferenceContext, put};
 pub use expectation::Expectation;
 pub use given::{CallableSig, GivenBody, first_args};
-pub use infer_goals;
-pub use infer_goals::{goal_facts, goal_terms, hir_facts, hir_raw, infer_table};
-pub use infer_result;

@@ -6,9 +6,9 @@ ghost use Rattle.infer_ctx.specs.Words.infer_table.Solutions.{log_of};
 ghost use Rattle.infer_ctx.specs.Own.{closed_types, closed_mismatch, closed_mismatches, closed_table, asked_or_noted, entry_of, said, said_of};
 
 use crate::context::InferenceContext;
-use infer_goals::hir_facts::{ExprOrPatId, List, Ty};
-use infer_goals::infer_table::InferenceTable;
+use hir_facts::{ExprOrPatId, List, Ty};
 use infer_result::{InferenceDiagnostic, InferenceResult, Seen, TypeMismatch, references_error};
+use infer_table::InferenceTable;
 use std::alloc::{AllocError, Global};
 
 /// A type that may be recorded, resolved.

@@ -1,7 +1,8 @@
 -- The body of a definition of lawful facts, and the types of what the definition takes and gives.
 use Rattle.std.specs.Option.{option_and_then}
+use Rattle.std.specs.Prelude.{IsTrue}
 use Rattle.std.proofs.Common.{◌≡◌, ap, ◌∙◌, refl, Option, Some, None, slice_get, ◌<◌, length, ℕ, inl, inr, List}
-use Rattle.infer_end.specs.Words.{BodyId, DefWithBodyId, VariantId, PatId, Ty, term, IsRead, RawBody, RawFacts, body_id_of, body_of, IsWalkable, RawVariant, BodyIdsExist, function_exists, constructor_exists, constructor_pattern_exists, tuple_struct_exists, scope_of, lets_fit, body_ids, IsLawful, Schedule, IsVariantPat, AllTypes, InferenceResult, AreOwnTypes, AreLetTypes, IsMade, TypesFit, SeenFit, IsTableOf, given_by, WrittenExist, State, new_state, IsCarriedExpectation, IsFineExpectation}
+use Rattle.infer_end.specs.Words.{BodyId, DefWithBodyId, VariantId, PatId, Ty, term, IsRead, RawBody, RawFacts, body_id_of, body_of, is_carried_body, IsWalkable, RawVariant, BodyIdsExist, function_exists, constructor_exists, constructor_pattern_exists, tuple_struct_exists, scope_of, lets_fit, body_ids, IsLawful, Schedule, IsVariantPat, AllTypes, InferenceResult, AreOwnTypes, AreLetTypes, IsMade, TypesFit, SeenFit, IsTableOf, given_by, WrittenExist, State, new_state, IsCarriedExpectation, IsFineExpectation}
 use Rattle.infer_end.proofs.Words.{inputs_count, typed_by_schedule, found, named_function, named_variant, item_with, carried_fine}
 use Rattle.infer_end.proofs.OwnIn.{alias_in, own_input_in, own_output_in, own_count}
 
@@ -28,8 +29,8 @@ module _ (raw : RawFacts) (d : DefWithBodyId) (i : BodyId) (b : RawBody) (inputs
     items = item_with raw law;
   }
 
-  pub inputs_for_params : length inputs ≡ length b.params
-  inputs_for_params = own_count raw law d i id inputs output own ∙ inputs_count raw law d i b id at
+  pub inputs_for_params : IsTrue (is_carried_body b) → length inputs ≡ length b.params
+  inputs_for_params carried = own_count raw law d i id inputs output own ∙ inputs_count raw law d i b id at carried
 
   -- what is expected of the root, if anything
   output_by : (o : Option Ty) → output ≡ o → (state : State) → IsCarriedExpectation o × IsFineExpectation (scope_of raw d) state o

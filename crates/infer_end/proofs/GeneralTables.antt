@@ -7,7 +7,7 @@ use Rattle.hir_types.specs.declared.ids.ExprOrPatId.TheVariants as node
 use Rattle.infer_end.proofs.Words.{ty_decides, derivation_of, typed_by_schedule, told_beside, at_kept, pat_at_kept, obeys_kept, pat_kept, misfit_kept, demand_kept, diagnostic_kept, pat_truth_kept, true_seen_kept, found, fine_closed, sound_with, At-unclosed, closed_at, asked_unlike, length-closed_mismatches, At-closed, length-closed, completion_closes}
 use Rattle.infer_end.specs.Words.infer_table.Solutions.{log_of}
 use Rattle.infer_end.specs.Words.infer_ctx.Said.{said}
-use Rattle.infer_end.specs.Own.{OnlyGoals, StaysOfPlain, EndsAs, AreResolved, HoldsResolved, KeepsGeneral, IsFull, HasAllTypes}
+use Rattle.infer_end.specs.Own.{OnlyGoals, StaysOfPlain, EndsAs, AreResolved, HoldsResolved, KeepsGeneral, IsFull, HasAllTypes, NoneStays}
 use Rattle.infer_end.proofs.Definitions.{found_body, table_of}
 use Rattle.infer_end.proofs.OwnIn.{plain_names_none}
 use Rattle.infer_end.proofs.Fits.{completed_table_fits, completed_table_read, fine_fits, seen_fits}
@@ -15,6 +15,7 @@ use Rattle.infer_end.proofs.SizedTypes.{heads_are_read}
 use Rattle.infer_end.proofs.GeneralTypes.{fine_general, fine_known, chosen, chosen_heads, chosen_closes, known_heads}
 use Rattle.infer_end.proofs.PlainBodies.{plain_body, no_ctor_aliases, no_placeholder, calls_item, none_plain, no_let_aliases}
 use Rattle.infer_end.proofs.PlainGoals.{plain_needs}
+use Rattle.infer_end.proofs.Staying.{none_stays}
 
 -- ---- a table with other types before fallback, other proofs and other gaps
 module _ (r : InferenceResult) (o : Option General) (ps : List Proof) (js : List (Ty × Ty)) (gs hs : List (List Gap)) where
@@ -212,6 +213,9 @@ module _ (raw : RawFacts) (d : DefWithBodyId) (i : BodyId) (b : RawBody) (s : Sc
         let r : InferenceResult = closed_table (completion c.goals.table) c.asked c.result in
         table_of raw d i b s inputs output aliases (closed_table (completion c.goals.table) c.asked (result_with o)) id at law own lets (made_other r o ps js gs hs g (done.made (completion c.goals.table) completes)) (all_types_other r o ps js gs hs _ (completed_table_fits sc c done.sound)) (seen_still_fit (completion c.goals.table) o) (all_types_other r o ps js gs hs _ (completed_table_read sc c done.sound))
 
+    completed_stays : (o : Option General) → NoneStays raw d (closed_table (completion c.goals.table) c.asked (result_with o))
+    completed_stays o none = all_types_other (closed_table (completion c.goals.table) c.asked c.result) o ps js gs hs _ (none_stays sc none c done.sound)
+
     -- ---- of a plain body
 
     module _ (acyclic : Triangular (log_of (bindings c.goals.table))) (plain : IsPlainBodyOf raw d) (x : General) (resolved : HoldsResolved c.goals.table c.result x) where
@@ -378,15 +382,18 @@ module _ (raw : RawFacts) (d : DefWithBodyId) (i : BodyId) (b : RawBody) (s : Sc
   Ends z =
       Meets (terms_of (completion z.goals.table)) z.goals.table → Respects (terms_of (completion z.goals.table)) → Triangular (log_of (bindings z.goals.table))
       → IsTableOf raw d (with_goals ps js gs hs (closed_table (completion z.goals.table) z.asked z.result)) × HasGeneral raw d (with_goals ps js gs hs (closed_table (completion z.goals.table) z.asked z.result))
+      × NoneStays raw d (with_goals ps js gs hs (closed_table (completion z.goals.table) z.asked z.result))
 
   pub ends : (last : InferenceContext) → KeepsGeneral raw d c last → Ends last
   ends last (inl (plain, (x, resolved, is))) = subst Ends (sym is) (λ meets respects acyclic. (
     completed_table meets respects (Some x),
     record { plain = λ p. (x, refl, general_types meets respects acyclic plain x resolved); other = λ never. absurd (never plain) },
+    completed_stays meets respects (Some x),
   ))
   ends last (inr (not_plain, is)) = subst Ends (sym is) (λ meets respects acyclic. (
     completed_table meets respects None,
     record { plain = λ p. absurd (not_plain p); other = λ never. refl },
+    completed_stays meets respects None,
   ))
 
 -- ---- with what is selected
@@ -425,6 +432,7 @@ module _ (raw : RawFacts) (d : DefWithBodyId) (i : BodyId) (b : RawBody) (s : Sc
       let F : InferenceResult → Type 0 = λ r. IsTableOf raw d (with_goals ps js gs hs (closed_table a z.asked r)) in (
         subst F same (completed_table raw d i b s inputs output aliases id at law own lets z after lawful ps js gs hs meets respects None),
         record { plain = λ p. absurd (not_plain p); other = λ never. none },
+        subst (λ r. NoneStays raw d (with_goals ps js gs hs (closed_table a z.asked r))) same (completed_stays raw d i b s inputs output aliases id at law own lets z after lawful ps js gs hs meets respects None),
       )
 
   pub ends_selected : (mid z : InferenceContext) → KeepsGeneral raw d c mid → OnlyGoals mid z → StaysOfPlain mid z → BodyDone (given_by raw d b inputs output aliases) z → EndsAs raw d ps js gs hs z

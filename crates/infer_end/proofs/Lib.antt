@@ -1,6 +1,7 @@
 pub mod OwnIn
 pub mod Definitions
 pub mod Fits
+pub mod Staying
 pub mod GeneralTables
 pub mod GeneralTypes
 pub mod PlainBodies
@@ -10,3 +11,4 @@ pub mod SizedTypes
 pub mod SelectedBody
 pub mod Settling
 pub mod Words
+pub mod Samples

@@ -164,5 +164,5 @@ module _ (raw : RawFacts) (n : ℕ) (b : RawBody) (h : IsPlainBody raw n b) wher
     pub calls_item : (call called : ExprId) (args : List ExprId) → slice_get g.body.exprs call.0 ≡ Some (expr.Call called args) → IsPathToItem g called
     calls_item call called args is =
         let here : slice_get b.exprs call.0 ≡ Some (expr.Call called args) = ap (λ (x : RawBody). slice_get x.exprs call.0) (sym body) ∙ is in
-        let stands = h.callees (inner (node.ExprId call)) 0 (expr_part callee called) (slice_get_within b.exprs call.0 (expr.Call called args) here) (ap (λ o. slice_get (parts_of_expr o) 0) here) in
+        let stands = h.callees (inner (node.ExprId call)) 0 (expr_part callee called) (slice_get_within b.exprs call.0 (expr.Call called args) here) (ap (λ o. slice_get (parts_of_expr b o) 0) here) in
         item_named called (slice_get b.exprs called.0) refl stands

@@ -182,7 +182,6 @@ module _ (raw : RawFacts) (law : IsLawful raw) (xs : List GenericArg) where
   path_plain (path.Ctor v) h =
       let x = some_of _ (slice_get raw.variants v.0) h in
       ap (variant_alias_goals raw xs) x.1 ∙ ap (alias_goals_from raw xs (count_or_none (adt_params raw x.0.adt))) (adt_aliases raw law v.0 x.0 x.1 x.2.1)
-  path_plain path.Other h = refl
 
   no_goals : (n : ℕ) (x : RawExpr) → IsPlainExpr raw n x → alias_goals raw xs x ≡ []
   no_goals n (expr.Path q) h = path_plain q h
@@ -257,7 +256,6 @@ module _ (raw : RawFacts) (law : IsLawful raw) (d : DefWithBodyId) (b : RawBody)
 
   path_need : (e : ExprId) (t : Ty) (q : RawPath) → HasTy r e t → IsPlainExpr raw (params_of raw d) (expr.Path q) → PathRule g r e q → (i : ℕ) (p : RawGoal) → slice_get (path_preds raw q) i ≡ Some p → IsSizedNeed raw (params_of raw d) t p
   path_need e t (path.Local v) has plain rule i p found = absurd (cc)
-  path_need e t path.Other has plain rule i p found = absurd (cc)
   path_need e t (path.Function f) has plain rule i p found =
       let x = some_of _ (slice_get raw.fns f.0) plain in
       let preds = list_all (is_sized_pred raw (length x.0.params)) x.0.preds in

@@ -1,5 +1,5 @@
 -- What is found out about a body holds where goals are selected and associated types are read in the end.
-use Rattle.std.specs.Prelude.{◌<◌, ◌≤◌, ◌+◌, ℕ, suc, length}
+use Rattle.std.specs.Prelude.{ℕ, suc, length}
 use Rattle.std.proofs.Common.{◌≡◌, ◌∙◌, refl, sym, ap, subst, inl, inr, arith, true≢false, List, Option, Some, None, is_some, true, false}
 use Rattle.infer_end.specs.Words.{terms_of, DefWithBodyId, RawFacts, completion, FellBack, Respects, State, Meets, bindings, IsOfBody, IsMade, Given, At, General, InferenceResult, TypeMismatch, GoalTable, stays_with, InferenceContext, IsSound, closed_table, with_general, with_table, is_fine_head, BodyDone, OnlyBinds, ReadsOn, IsSelection, SelectsInWalk}
 use Rattle.infer_end.proofs.Words.{binds_only_fallen, told_same, decided_later, closes_earlier, binds_nothing, binds_twice, sound_later}
@@ -43,37 +43,30 @@ falls_back g c body sound after fell meets respects =
 pub selects_then_reads : (g : Given) (old mid new : InferenceContext) → SelectsInWalk g old mid → ReadsOn g mid new → SelectsThenReads g old new
 selects_then_reads g old mid new selects reads = record { selected = mid; selects = selects; reads = reads }
 
-round_binds : (g : Given) (old new : InferenceContext) → SelectsThenReads g old new → OnlyBinds g old new
+pub round_binds : (g : Given) (old new : InferenceContext) → SelectsThenReads g old new → OnlyBinds g old new
 round_binds g old new round = binds_twice g old round.selected new round.selects.binds round.reads.binds
 
 -- that was done so many times
-pub record Rounds (g : Given) (n : ℕ) (old c : InferenceContext) : Type 0 where
-  pub within : n ≤ g.scope.facts.limits.goal_depth
+pub record Rounds (g : Given) (old c : InferenceContext) : Type 0 where
   pub binds : OnlyBinds g old c
-  pub times : SelectsThenReadsTimes g n old c
+  pub times : ℕ
+  pub rounds : SelectsThenReadsTimes g times old c
 
-one_more : (n : ℕ) → suc n ≡ n + 1
-one_more n = omega arith
+pub begins_rounds : (g : Given) (c : InferenceContext) → IsOfBody g.body c.result → IsSound g.scope c → Rounds g c c
+begins_rounds g c body sound = record { binds = binds_nothing g c body sound; times = 0; rounds = refl }
 
-pub begins_rounds : (g : Given) (c : InferenceContext) → IsOfBody g.body c.result → IsSound g.scope c → Rounds g 0 c c
-begins_rounds g c body sound = record { within = omega arith; binds = binds_nothing g c body sound; times = refl }
+pub once_more : (g : Given) (old c next : InferenceContext) → Rounds g old c → SelectsThenReads g c next → Rounds g old next
+once_more g old c next so_far round = record { binds = binds_twice g old c next so_far.binds (round_binds g c next round); times = suc so_far.times; rounds = (c, so_far.rounds, round) }
 
-pub once_more : (g : Given) (n limit : ℕ) (old c next : InferenceContext) → limit ≡ g.scope.facts.limits.goal_depth → n < limit → Rounds g n old c → SelectsThenReads g c next → Rounds g (n + 1) old next
-once_more g n limit old c next is more so_far round = subst (λ m. Rounds g m old next) (one_more n) (record {
-  within = omega (arith, is, more);
+pub bound_none : (g : Given) (old c next : InferenceContext) → Rounds g old c → SelectsThenReads g c next → length (bindings next.goals.table) ≡ length (bindings c.goals.table) → SelectsAndReadsOn g old next
+bound_none g old c next so_far round none = record {
   binds = binds_twice g old c next so_far.binds (round_binds g c next round);
-  times = (c, so_far.times, round);
-})
-
-pub bound_none : (g : Given) (n : ℕ) (old c next : InferenceContext) → Rounds g n old c → SelectsThenReads g c next → length (bindings next.goals.table) ≡ length (bindings c.goals.table) → SelectsAndReadsOn g old next
-bound_none g n old c next so_far round none = record {
-  binds = binds_twice g old c next so_far.binds (round_binds g c next round);
-  ends = inl (record { times = n; before = c; first = so_far.times; again = round; none = none });
+  times = so_far.times;
+  before = c;
+  first = so_far.rounds;
+  again = round;
+  none = none;
 }
-
-pub often_enough : (g : Given) (n limit : ℕ) (old c : InferenceContext) → limit ≡ g.scope.facts.limits.goal_depth → limit ≤ n → Rounds g n old c → SelectsAndReadsOn g old c
-often_enough g n limit old c is all so_far =
-    (let end : n ≡ g.scope.facts.limits.goal_depth = omega (arith, is, all, so_far.within) in record { binds = so_far.binds; ends = inr (subst (λ m. SelectsThenReadsTimes g m old c) end so_far.times) })
 
 -- ---- in the end
 

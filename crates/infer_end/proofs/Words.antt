@@ -10,4 +10,5 @@ pub use Rattle.infer_obligations.proofs.Words.{told_beside, told_same, every_at,
 pub use Rattle.infer_obligations.proofs.Words.{binds_nothing, binds_twice, bound_heads, completion_closes, composed_closing}
 pub use Rattle.infer_obligations.proofs.InHand.{in_hand_fine}
 pub use Rattle.infer_obligations.proofs.Selecting.{StaysApart, selected_apart, selected_heads}
+pub use Rattle.infer_obligations.proofs.ReadNeeds.{leaves_fewer}
 pub use Rattle.infer_obligations.proofs.Walking.{sound_later}

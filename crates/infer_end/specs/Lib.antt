@@ -1,5 +1,6 @@
 pub mod KeptTypes
 pub mod SelectedBody
+pub mod Staying
 pub mod Ends
 pub mod Words
 pub mod Own

@@ -1,5 +1,5 @@
 -- What selection does to what was found out about a body.
-use Rattle.std.specs.Prelude.{◌≡◌, ◌⊎◌, ℕ, zero, suc, length, Some, None}
+use Rattle.std.specs.Prelude.{◌≡◌, ℕ, zero, suc, length, Some, None}
 use Rattle.infer_end.specs.Words.{DefWithBodyId, FellBack, bindings, General, Given, InferenceContext, BodyDone, OnlyBinds, ReadsOn, IsSelection, SelectsInWalk}
 
 -- the table of goals alone may change, with its holes
@@ -30,18 +30,14 @@ abbrev pub SelectsThenReadsTimes : Given → ℕ → InferenceContext → Infere
 SelectsThenReadsTimes g zero old new = new ≡ old
 SelectsThenReadsTimes g (suc n) old new = (mid : InferenceContext) × SelectsThenReadsTimes g n old mid × SelectsThenReads g mid new
 
--- once more than so many times, and the last time bound no hole
-pub record EndsWithNone (g : Given) (old new : InferenceContext) : Type 0 where
+-- again and again, and the last time bound no hole
+pub record SelectsAndReadsOn (g : Given) (old new : InferenceContext) : Type 0 where
+  pub binds : OnlyBinds g old new
   pub times : ℕ
   pub before : InferenceContext
   pub first : SelectsThenReadsTimes g times old before
   pub again : SelectsThenReads g before new
   pub none : length (bindings new.goals.table) ≡ length (bindings before.goals.table)
-
--- until that bound no hole any more, or as often as goals may be followed
-pub record SelectsAndReadsOn (g : Given) (old new : InferenceContext) : Type 0 where
-  pub binds : OnlyBinds g old new
-  pub ends : EndsWithNone g old new ⊎ SelectsThenReadsTimes g g.scope.facts.limits.goal_depth old new
 
 -- ---- in the end
 

@@ -2,10 +2,10 @@
 ghost use Rattle.std.specs.Prelude.{IfOk};
 ghost use Rattle.infer_end.specs.Own.{IsFull, HasAllTypes, AreResolved, HoldsResolved, KeepsGeneral};
 
-use infer_obligations::hir_facts::{DefWithBodyId, Facts, List, Ty, is_plain};
-use infer_obligations::infer_ctx::InferenceContext;
-use infer_obligations::infer_result::General;
-use infer_obligations::infer_table::InferenceTable;
+use hir_facts::{DefWithBodyId, Facts, List, Ty, is_plain};
+use infer_ctx::InferenceContext;
+use infer_result::General;
+use infer_table::InferenceTable;
 use std::alloc::{AllocError, Global};
 
 /// The types that are recorded, each with what is known of its holes.

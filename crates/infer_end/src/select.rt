@@ -4,7 +4,7 @@ ghost use Rattle.std.specs.Prelude.{◌≡◌, OnOk};
 ghost use Rattle.infer_end.specs.Words.{scope_item, IsTold, IsSound, IsOfBody, given_of, scope_in, BodyDone, IsSelection};
 ghost use Rattle.infer_end.specs.Own.{OnlyGoals, FallsBack, SelectsThenReads, SelectsAndReadsOn, SettlesBody, SettlesLast};
 
-use infer_obligations::infer_ctx::{GivenBody, InferenceContext};
+use infer_ctx::{GivenBody, InferenceContext};
 use infer_obligations::{read_all, select_obligations_where_possible, select_registered};
 use std::alloc::{AllocError, Global};
 
@@ -36,8 +36,7 @@ fn select_then_read(
     Ok(())
 }
 
-/// Does so until that binds no hole any more, at most as often as the facts let goals be followed: what is read may be what a goal is
-/// selected by.
+/// Does so until that binds no hole any more: what is read may be what a goal is selected by.
 fn select_and_read_on(
     alloc: Global,
     context: &mut InferenceContext,
@@ -48,15 +47,13 @@ fn select_and_read_on(
     requires told { IsTold (given_of given.now) context.old }
     ensures { OnOk result (SelectsAndReadsOn (given_of given.now) context.old context.new) }
 {
-    let limit = given.facts.raw().limits.goal_depth;
-    for _round in 0..limit {
+    'settle: loop {
         let bound = context.goals.table.bound_count();
         select_then_read(alloc, context, given)?;
         if context.goals.table.bound_count() == bound {
             return Ok(());
         }
     }
-    Ok(())
 }
 
 /// Selects what nodes of the body need, at the types known so far, and binds holes as that says: in the end without a bound.

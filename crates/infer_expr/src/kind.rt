@@ -103,6 +103,6 @@ pub fn infer_expr_of_kind<
                 expected,
             )
         }
-        RawExpr::Other => unreachable!(),
+        RawExpr::Later(_) => unreachable!(),
     }
 }

@@ -1,14 +1,15 @@
 //! Inference of a body, from its facts to its table.
 ghost use Rattle.std.specs.Prelude.{◌≡◌, IfOk, Some};
 ghost use Rattle.hir_raw.specs.declared.raw.RawBody.{RawBody};
-ghost use Rattle.hir_facts.specs.Bodies.{HasBody, body_of};
+ghost use Rattle.hir_facts.specs.Bodies.{HasCarriedBody, body_of};
 ghost use Rattle.infer_result.specs.Typed.{IsTableOf, given};
 ghost use Rattle.infer_result.specs.General.{HasGeneral};
 ghost use Rattle.infer_result.specs.Needs.{GoalsHold, HasNoneLeft};
 ghost use Rattle.infer_result.specs.WrittenAliases.{AllWrittenAreListed};
-ghost use Rattle.infer_needs.specs.Fits.{EntriesFit};
+ghost use Rattle.infer_needs.specs.Fits.{EntriesFit, ProofsFit};
 ghost use Rattle.infer_needs.specs.Told.{AreAllAnswered, HearsAll, IsToldAll, RootsAreNeeded, at_exit};
 ghost use Rattle.infer_end.specs.Ends.{EndsWell, IsSelectedBody, ComesOfSelection};
+ghost use Rattle.infer_end.specs.Staying.{NoneStays};
 
 use crate::body::infer_body;
 use hir_facts::{DefWithBodyId, Facts, Goal};
@@ -27,7 +28,7 @@ fn infer_holes(
     facts: &Facts,
     def: DefWithBodyId,
 ) -> Result<InferenceContext<'_>, AllocError>
-    requires { HasBody facts.now def }
+    requires { HasCarriedBody facts.now def }
     ensures ends { IfOk result (λ context. EndsWell facts.now def context) }
     ensures selected { IfOk result (λ context. (b : RawBody) → body_of facts.now def ≡ Some b → IsSelectedBody facts.now def b context) }
 {
@@ -60,14 +61,16 @@ fn infer_with_goals(
     facts: &Facts,
     def: DefWithBodyId,
 ) -> Result<(InferenceResult, Vec<(Goal, Answer)>), AllocError>
-    requires { HasBody facts.now def }
+    requires { HasCarriedBody facts.now def }
     ensures table { IfOk result (λ made. IsTableOf facts.now def made.0) }
     ensures general { IfOk result (λ made. HasGeneral facts.now def made.0) }
+    ensures stays { IfOk result (λ made. NoneStays facts.now def made.0) }
     ensures goals { IfOk result (λ made. (b : RawBody) → body_of facts.now def ≡ Some b → GoalsHold def (given facts.now def b) made.0) }
     ensures left { IfOk result (λ made. (b : RawBody) → body_of facts.now def ≡ Some b → HasNoneLeft def (given facts.now def b) made.0) }
     ensures written { IfOk result (λ made. (b : RawBody) → body_of facts.now def ≡ Some b → AllWrittenAreListed def (given facts.now def b) made.0) }
     ensures roots { IfOk result (λ made. (b : RawBody) → body_of facts.now def ≡ Some b → RootsAreNeeded (given facts.now def b) made.0) }
     ensures fit { IfOk result (λ made. (b : RawBody) → body_of facts.now def ≡ Some b → EntriesFit (given facts.now def b) made.0) }
+    ensures proofs { IfOk result (λ made. (b : RawBody) → body_of facts.now def ≡ Some b → ProofsFit def (given facts.now def b) made.0) }
     ensures selected { IfOk result (λ made. (b : RawBody) → body_of facts.now def ≡ Some b → ComesOfSelection facts.now def b made.0) }
     ensures told { IfOk result (λ made. (b : RawBody) → body_of facts.now def ≡ Some b → AreAllAnswered def (given facts.now def b) made.0 made.1.items) }
 {
@@ -83,14 +86,16 @@ fn infer_untold(
     facts: &Facts,
     def: DefWithBodyId,
 ) -> Result<InferenceResult, AllocError>
-    requires { HasBody facts.now def }
+    requires { HasCarriedBody facts.now def }
     ensures table { IfOk result (λ table. IsTableOf facts.now def table) }
     ensures general { IfOk result (λ table. HasGeneral facts.now def table) }
+    ensures stays { IfOk result (λ table. NoneStays facts.now def table) }
     ensures goals { IfOk result (λ table. (b : RawBody) → body_of facts.now def ≡ Some b → GoalsHold def (given facts.now def b) table) }
     ensures left { IfOk result (λ table. (b : RawBody) → body_of facts.now def ≡ Some b → HasNoneLeft def (given facts.now def b) table) }
     ensures written { IfOk result (λ table. (b : RawBody) → body_of facts.now def ≡ Some b → AllWrittenAreListed def (given facts.now def b) table) }
     ensures roots { IfOk result (λ table. (b : RawBody) → body_of facts.now def ≡ Some b → RootsAreNeeded (given facts.now def b) table) }
     ensures fit { IfOk result (λ table. (b : RawBody) → body_of facts.now def ≡ Some b → EntriesFit (given facts.now def b) table) }
+    ensures proofs { IfOk result (λ table. (b : RawBody) → body_of facts.now def ≡ Some b → ProofsFit def (given facts.now def b) table) }
     ensures selected { IfOk result (λ table. (b : RawBody) → body_of facts.now def ≡ Some b → ComesOfSelection facts.now def b table) }
 {
     let (table, _) = infer_with_goals(alloc, facts, def)?;
@@ -104,14 +109,16 @@ fn infer_told<I: ObligationInspector>(
     def: DefWithBodyId,
     inspect: &mut I,
 ) -> Result<InferenceResult, AllocError>
-    requires { HasBody facts.now def }
+    requires { HasCarriedBody facts.now def }
     ensures table { IfOk result (λ table. IsTableOf facts.now def table) }
     ensures general { IfOk result (λ table. HasGeneral facts.now def table) }
+    ensures stays { IfOk result (λ table. NoneStays facts.now def table) }
     ensures goals { IfOk result (λ table. (b : RawBody) → body_of facts.now def ≡ Some b → GoalsHold def (given facts.now def b) table) }
     ensures left { IfOk result (λ table. (b : RawBody) → body_of facts.now def ≡ Some b → HasNoneLeft def (given facts.now def b) table) }
     ensures written { IfOk result (λ table. (b : RawBody) → body_of facts.now def ≡ Some b → AllWrittenAreListed def (given facts.now def b) table) }
     ensures roots { IfOk result (λ table. (b : RawBody) → body_of facts.now def ≡ Some b → RootsAreNeeded (given facts.now def b) table) }
     ensures fit { IfOk result (λ table. (b : RawBody) → body_of facts.now def ≡ Some b → EntriesFit (given facts.now def b) table) }
+    ensures proofs { IfOk result (λ table. (b : RawBody) → body_of facts.now def ≡ Some b → ProofsFit def (given facts.now def b) table) }
     ensures selected { IfOk result (λ table. (b : RawBody) → body_of facts.now def ≡ Some b → ComesOfSelection facts.now def b table) }
     ensures told { IfOk result (λ table. (b : RawBody) → body_of facts.now def ≡ Some b → HearsAll def (given facts.now def b) table (I.list inspect.old) (I.list inspect.new)) }
 {
@@ -120,14 +127,15 @@ fn infer_told<I: ObligationInspector>(
     Ok(table)
 }
 
-/// The table of a definition's body: `infer.rs`, `infer_query_with_inspect`. Its one error is want
-/// of memory. What nodes need is selected before open holes fall back, and binds holes of bodies that are not
+/// The table of a definition's body, which is of kinds that are carried: `infer.rs`, `infer_query_with_inspect`. Its one error is
+/// want of memory. What nodes need is selected before open holes fall back, and binds holes of bodies that are not
 /// plain. It is proved, or it is said that it has no proof, once all types are known, and the inspector is told of
 /// each of these goals with its answer. In no type of the table is an associated type left that could be read,
 /// unless the table says what it is; nor is one of which it does not say so in what the definition takes and gives, in the
-/// types of its `let`s, or in what nodes need. What is listed so, and what is said of needs, names what the facts have, and
-/// has no holes. Each listed proof of a goal about a trait is one that another asks for, or of a goal that a node needs. Of a
-/// plain body the table keeps its types with holes too, before these fall back to anything:
+/// types of its `let`s, or in what nodes need. What is listed so, what is said of needs, and what each proof is of and at
+/// which arguments, names what the facts have, and has no holes. Each listed proof of a goal about a trait is one that
+/// another asks for, or of a goal that a node needs. None of its types holds an associated type that stays, where none may
+/// be types in the body. Of a plain body the table keeps its types with holes too, before these fall back to anything:
 /// `InferenceResult::general`.
 pub fn infer_query_with_inspect<I: ObligationInspector>(
     alloc: Global,
@@ -135,14 +143,16 @@ pub fn infer_query_with_inspect<I: ObligationInspector>(
     def: DefWithBodyId,
     inspect: Option<&mut I>,
 ) -> Result<InferenceResult, AllocError>
-    requires { HasBody facts.now def }
+    requires { HasCarriedBody facts.now def }
     ensures table { IfOk result (λ table. IsTableOf facts.now def table) }
     ensures general { IfOk result (λ table. HasGeneral facts.now def table) }
+    ensures stays { IfOk result (λ table. NoneStays facts.now def table) }
     ensures goals { IfOk result (λ table. (b : RawBody) → body_of facts.now def ≡ Some b → GoalsHold def (given facts.now def b) table) }
     ensures left { IfOk result (λ table. (b : RawBody) → body_of facts.now def ≡ Some b → HasNoneLeft def (given facts.now def b) table) }
     ensures written { IfOk result (λ table. (b : RawBody) → body_of facts.now def ≡ Some b → AllWrittenAreListed def (given facts.now def b) table) }
     ensures roots { IfOk result (λ table. (b : RawBody) → body_of facts.now def ≡ Some b → RootsAreNeeded (given facts.now def b) table) }
     ensures fit { IfOk result (λ table. (b : RawBody) → body_of facts.now def ≡ Some b → EntriesFit (given facts.now def b) table) }
+    ensures proofs { IfOk result (λ table. (b : RawBody) → body_of facts.now def ≡ Some b → ProofsFit def (given facts.now def b) table) }
     ensures selected { IfOk result (λ table. (b : RawBody) → body_of facts.now def ≡ Some b → ComesOfSelection facts.now def b table) }
     ensures told { IfOk result (λ table. (b : RawBody) → body_of facts.now def ≡ Some b → IsToldAll I.list def (given facts.now def b) table inspect.entry (at_exit inspect.exit)) }
 {

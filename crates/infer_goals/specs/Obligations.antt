@@ -90,13 +90,15 @@ AreAmongEither xs ys zs = (i : ℕ) → IsAmong xs i → IsAmong ys i ⊎ IsAmon
 -- the same of two lists
 abbrev pub ScansOpen : GoalTree → List ℕ → List ℕ → GoalTree → List ℕ → List ℕ → Type 0
 ScansOpen t here below t' here' below' =
-    (i : ℕ) → IsOpenAt t'.standings.items i → (IsAmong here i → IsAmong here' i) × ((IsAmong below i ⊎ (length t.obligations.items ≤ i)) → IsAmong below' i)
+    (i : ℕ) → IsOpenAt t'.standings.items i → (IsAmong here i → IsAmong here' i)
+    × ((IsAmong below i ⊎ (length t.obligations.items ≤ i)) → IsAmong below' i)
 
 -- ---- what is left
 
 -- nothing selects it with what is known of its holes
 abbrev pub IsSettled : System → State → GoalTree → ℕ → Type 0
-IsSettled f s t i = (x : Obligation) → slice_get t.obligations.items i ≡ Some x → (by : Choice) → Selects f x.depth (asked_goal (known_goal s x.goal)) by → ⊥
+IsSettled f s t i = (x : Obligation) → slice_get t.obligations.items i ≡ Some x → (by : Choice)
+    → Selects f x.depth (asked_goal (known_goal s x.goal)) by → ⊥
 
 -- as many were selected as may be
 abbrev pub AreUsedUp : RawFacts → Bool → Obligations → Type 0
@@ -119,7 +121,8 @@ pub record Stays (s : State) (o : Obligations) (s' : State) (o' : Obligations) :
 -- what came behind is followed less far than the obligation
 abbrev pub AreLower : GoalTree → ℕ → GoalTree → Type 0
 AreLower t i t' =
-    (x : Obligation) → slice_get t.obligations.items i ≡ Some x → (j : ℕ) (y : Obligation) → length t.obligations.items ≤ j → slice_get t'.obligations.items j ≡ Some y → y.depth < x.depth
+    (x : Obligation) → slice_get t.obligations.items i ≡ Some x → (j : ℕ) (y : Obligation) → length t.obligations.items ≤ j
+    → slice_get t'.obligations.items j ≡ Some y → y.depth < x.depth
 
 -- the numbers of what came behind
 abbrev pub new_numbers : GoalTree → GoalTree → List ℕ
@@ -136,7 +139,8 @@ IsTried raw f bounded s o i s' o' true = (IsOpenAt o'.tree.standings.items i →
 IsTried raw f bounded s o i s' o' false = Stays s o s' o' × (AreUsedUp raw bounded o ⊎ IsSettled f s o.tree i)
 
 -- one was looked at: it is left where it is open still
-pub record IsVisited (raw : RawFacts) (f : System) (bounded : Bool) (s : State) (o : Obligations) (at : ℕ) (below left : List ℕ) (s' : State) (o' : Obligations) (below' left' : List ℕ) : Type 0 where
+pub record IsVisited (raw : RawFacts) (f : System) (bounded : Bool) (s : State) (o : Obligations) (at : ℕ) (below left : List ℕ)
+    (s' : State) (o' : Obligations) (below' left' : List ℕ) : Type 0 where
   pub done : Bool
   pub went : Went raw f bounded s o s' o'
   pub tried : IsTried raw f bounded s o at s' o' done
@@ -145,17 +149,20 @@ pub record IsVisited (raw : RawFacts) (f : System) (bounded : Bool) (s : State) 
   pub lower : AreLower o.tree at o'.tree
 
 -- these were looked at, one after another; where they are of one depth, and the others below it, so it is after
-pub record AreScanned (raw : RawFacts) (f : System) (bounded : Bool) (s : State) (o : Obligations) (here below : List ℕ) (s' : State) (o' : Obligations) (here' below' : List ℕ) : Type 0 where
+pub record AreScanned (raw : RawFacts) (f : System) (bounded : Bool) (s : State) (o : Obligations) (here below : List ℕ) (s' : State)
+    (o' : Obligations) (here' below' : List ℕ) : Type 0 where
   pub went : Went raw f bounded s o s' o'
   pub fewer : length here' ≤ length here
-  pub at : (d : ℕ) → AreAt o.tree d here → AreBelow o.tree d below → AreAt o'.tree d here' × AreBelow o'.tree d below' × ScansOpen o.tree here below o'.tree here' below'
+  pub at : (d : ℕ) → AreAt o.tree d here → AreBelow o.tree d below → AreAt o'.tree d here' × AreBelow o'.tree d below'
+      × ScansOpen o.tree here below o'.tree here' below'
   pub settled : StaysSettled raw f bounded s o here below s' o' here' below'
 
 -- ---- what sleeps
 
 -- it is in the list of each hole that stands in it with what is known of its holes
 abbrev pub IsListedByHoles : State → GoalTree → List (List ℕ) → ℕ → Type 0
-IsListedByHoles s t lists i = (x : Obligation) → slice_get t.obligations.items i ≡ Some x → ListsHoles lists (asked_goal (known_goal s x.goal)).parts i
+IsListedByHoles s t lists i = (x : Obligation) → slice_get t.obligations.items i ≡ Some x
+    → ListsHoles lists (asked_goal (known_goal s x.goal)).parts i
 
 -- nothing selects it, and each of its holes would wake it
 pub record IsAsleep (f : System) (s : State) (t : GoalTree) (z : Sleepers) (i : ℕ) : Type 0 where

@@ -58,10 +58,12 @@ HasChildren ss i c = (z : Standing) × (slice_get ss i ≡ Some z) × (c ≡ chi
 -- the goal where it is about the hole, and then what its children list; nothing where it is answered Yes
 abbrev pub IsListedAs : (ℕ → List Goal → Type 0) → Ty → Goal → Standing → Answer → List Goal → Type 0
 IsListedAs L v g z answer_of.Yes gs = gs ≡ []
-IsListedAs L v g z _ gs = (xs : List Goal) × (ys : List Goal) × IsListedIfAbout v g xs × AreOfAll L (children z).0 (children z).1 ys × (gs ≡ xs ++ ys)
+IsListedAs L v g z _ gs = (xs : List Goal) × (ys : List Goal) × IsListedIfAbout v g xs × AreOfAll L (children z).0 (children z).1 ys
+    × (gs ≡ xs ++ ys)
 
 -- the obligation of this number, with what is known of its holes, where its children list this
-pub record IsListed (f : System) (n : ℕ) (s : State) (v : Ty) (t : GoalTree) (L : ℕ → List Goal → Type 0) (i : ℕ) (gs : List Goal) : Type 0 where
+pub record IsListed (f : System) (n : ℕ) (s : State) (v : Ty) (t : GoalTree) (L : ℕ → List Goal → Type 0) (i : ℕ)
+    (gs : List Goal) : Type 0 where
   pub obligation : Obligation
   pub standing : Standing
   pub answer : Answer

@@ -46,22 +46,28 @@ stays_twice x y z h k = record {
 }
 
 -- what is kept of the goals is kept where holes alone were made and bound
-pub kept_still : (t t' : GoalTable) → AreKept t.sources.facts (system t.sources.sources) t.table t.obligations → StaysButHoles t t' → Grew t.table t'.table
+pub kept_still : (t t' : GoalTable) → AreKept t.sources.facts (system t.sources.sources) t.table t.obligations → StaysButHoles t t'
+    → Grew t.table t'.table
     → AreKept t'.sources.facts (system t'.sources.sources) t'.table t'.obligations
 kept_still t t' kept stays grew =
     let f = system t.sources.sources in
     let later : AreKept t.sources.facts f t'.table t.obligations = kept_grows t.sources.facts f t.table t'.table t.obligations kept grew in
-    let same : AreKept t'.sources.facts (system t'.sources.sources) t'.table t.obligations = subst (λ (z : ItemSources). AreKept z.facts (system z.sources) t'.table t.obligations) (sym stays.sources) later in
+    let same : AreKept t'.sources.facts (system t'.sources.sources) t'.table t.obligations =
+    subst (λ (z : ItemSources). AreKept z.facts (system z.sources) t'.table t.obligations) (sym stays.sources) later in
     subst (λ (o : Obligations). AreKept t'.sources.facts (system t'.sources.sources) t'.table o) (sym stays.obligations) same
 
 -- so it is of what is to be looked at
-pub all_still : (t t' : GoalTable) → HasAllOpen (system t.sources.sources) t.table t.obligations → StaysButHoles t t' → Grew t.table t'.table → HasAllOpen (system t'.sources.sources) t'.table t'.obligations
+pub all_still : (t t' : GoalTable) → HasAllOpen (system t.sources.sources) t.table t.obligations → StaysButHoles t t'
+    → Grew t.table t'.table → HasAllOpen (system t'.sources.sources) t'.table t'.obligations
 all_still t t' all stays grew =
-    let later : HasAllOpen (system t.sources.sources) t'.table t.obligations = all_grows (system t.sources.sources) t.table t'.table t.obligations all grew in
-    let same : HasAllOpen (system t'.sources.sources) t'.table t.obligations = subst (λ (z : ItemSources). HasAllOpen (system z.sources) t'.table t.obligations) (sym stays.sources) later in
+    let later : HasAllOpen (system t.sources.sources) t'.table t.obligations =
+    all_grows (system t.sources.sources) t.table t'.table t.obligations all grew in
+    let same : HasAllOpen (system t'.sources.sources) t'.table t.obligations =
+    subst (λ (z : ItemSources). HasAllOpen (system z.sources) t'.table t.obligations) (sym stays.sources) later in
     subst (λ (o : Obligations). HasAllOpen (system t'.sources.sources) t'.table o) (sym stays.obligations) same
 
-pub unused_still : (raw : RawFacts) (item : GenericDefId) (t t' : GoalTable) → IsUnused raw item t → StaysButHoles t t' → Grew t.table t'.table → IsUnused raw item t'
+pub unused_still : (raw : RawFacts) (item : GenericDefId) (t t' : GoalTable) → IsUnused raw item t → StaysButHoles t t'
+    → Grew t.table t'.table → IsUnused raw item t'
 unused_still raw item t t' h stays grew = record {
   facts = ap (λ (z : ItemSources). z.facts) stays.sources ∙ h.facts;
   scope = ap (λ (z : ItemSources). z.item) stays.sources ∙ h.scope;

@@ -2,7 +2,7 @@
 ghost use Rattle.std.specs.Prelude.{◌≡◌, ◌++◌, ◌∷◌, [], List, OnOk};
 ghost use Rattle.infer_goals.specs.Words.{Goal, Answer};
 
-use goal_select::goal_facts::{Answer, Goal};
+use goal_facts::{Answer, Goal};
 use std::alloc::{AllocError, Global};
 
 /// Is told of each goal that inference evaluates, with its answer, as `infer.rs`'s

@@ -8,9 +8,7 @@ mod sleepers;
 mod table;
 mod undo;
 
-pub use goal_select::goal_facts::Answer;
-pub use goal_select::{goal_facts, goal_search, goal_terms, hir_facts, hir_raw, infer_table};
-pub use goal_tree;
+pub use goal_facts::Answer;
 pub use inspect::{ObligationInspector, ToldList};
 pub use obligations::Obligations;
 pub use table::GoalTable;

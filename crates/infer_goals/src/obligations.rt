@@ -6,10 +6,10 @@ ghost use Rattle.infer_goals.specs.Words.{System, system, IsTree, IsOpenAt, regi
 ghost use Rattle.infer_goals.specs.Own.{AreKept, AreWithin, AreBelow, AreAt, HasAllOpen, HasAllAnyhow, HasAllSince, KeepsAllOpen, WakesAll, SleepsAll, FallAsleep, AreThere, EndsRound, AreUsedUp, AreSettled, NoneLeft, Went, counted, KeepsOpen, AreAmongEither, AreScanned, AreLower, new_numbers, IsTried, IsVisited, IsCopied};
 
 use crate::sleepers::Sleepers;
-use goal_select::goal_facts::{ExprOrPatId, Goal, ItemSources, asked};
-use goal_select::infer_table::InferenceTable;
+use goal_facts::{ExprOrPatId, Goal, ItemSources, asked};
 use goal_select::{Selected, select_goal};
 use goal_tree::GoalTree;
+use infer_table::InferenceTable;
 use std::alloc::{AllocError, Global};
 
 /// Lets an obligation sleep on each hole of its goal, with what is known of them.

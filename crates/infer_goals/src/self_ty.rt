@@ -4,9 +4,9 @@ ghost use Rattle.infer_goals.specs.Words.{system, IsTree};
 ghost use Rattle.infer_goals.specs.Own.{IsHole, IsAbout, IsListedIfAbout, children, HasChildren, Adds, AreListed, IsListedPending, AreOfAll};
 
 use crate::obligations::Obligations;
-use goal_select::goal_facts::{Answer, GenericArg, Goal, ItemSources, TraitRef, Ty};
-use goal_select::infer_table::InferenceTable;
+use goal_facts::{Answer, GenericArg, Goal, ItemSources, TraitRef, Ty};
 use goal_tree::Standing;
+use infer_table::InferenceTable;
 use std::alloc::AllocError;
 
 /// How many levels of the tree of goals are looked at, the pending goals being the first.

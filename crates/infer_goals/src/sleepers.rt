@@ -5,9 +5,9 @@ ghost use Rattle.std.specs.Prelude.{◌≡◌, ◌<◌, ◌++◌, ◌∷◌, [],
 ghost use Rattle.infer_goals.specs.Words.{hole_number, term_of, bindings};
 ghost use Rattle.infer_goals.specs.Own.{IsAmong, HasRoom, IsListed, KeepsListed, ListsHoles, FallsAsleep, AreWoken, IsStirredAt, IsStirred, AreCopied};
 
-use goal_select::goal_terms::Term;
-use goal_select::infer_table::InferenceTable;
+use goal_terms::Term;
 use hir_types::{Hole, List};
+use infer_table::InferenceTable;
 use std::alloc::{AllocError, Global};
 
 fn number(hole: Hole) -> usize

@@ -4,10 +4,8 @@ ghost use Rattle.infer_goals.specs.Words.{term, new_state, resolved_type, system
 ghost use Rattle.infer_goals.specs.Own.{resolved_goal, AreKept, HasAllOpen, NoneLeft, Went, BoundMore, AreForSelfTy};
 
 use crate::obligations::Obligations;
-use goal_select::goal_facts::{
-    Answer, ExprOrPatId, Facts, GenericDefId, Goal, ItemSources, Proof, Ty,
-};
-use goal_select::infer_table::InferenceTable;
+use goal_facts::{Answer, ExprOrPatId, Facts, GenericDefId, Goal, ItemSources, Proof, Ty};
+use infer_table::InferenceTable;
 use std::alloc::{AllocError, Global};
 
 /// The goals that inference of a body meets, with the table of its holes.

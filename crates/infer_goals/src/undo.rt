@@ -6,8 +6,8 @@ ghost use Rattle.infer_goals.specs.Own.{GoalTable, IsCopied, AreKept, HasAllOpen
 
 use crate::obligations::Obligations;
 use crate::table::GoalTable;
-use goal_select::goal_facts::{ExprOrPatId, Ty};
-use goal_select::infer_table::Snapshot;
+use goal_facts::{ExprOrPatId, Ty};
+use infer_table::Snapshot;
 use std::alloc::AllocError;
 
 /// A state of a table of goals that can be gone back to: copies of what may change.

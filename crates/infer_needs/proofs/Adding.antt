@@ -10,12 +10,13 @@ use Rattle.infer_needs.specs.Own.{HasProofOf, AreEntries, AddsEntries}
 -- ---- proofs that are added
 
 pub adds_none : (raw : RawFacts) (f : System) (ps : List Proof) → AddsProofs raw f ps ps
-adds_none raw f ps = record { behind = front_itself ps; right = λ h. h }
+adds_none raw f ps = record { behind = front_itself ps; right = λ h. h; drawn = λ h. h }
 
 pub adds_then : (raw : RawFacts) (f : System) (ps qs rs : List Proof) → AddsProofs raw f ps qs → AddsProofs raw f qs rs → AddsProofs raw f ps rs
 adds_then raw f ps qs rs a b = record {
   behind = (a.behind.0 ++ b.behind.0, b.behind.1 ∙ ap (λ l. l ++ b.behind.0) a.behind.1 ∙ append_assoc ps a.behind.0 b.behind.0);
   right = λ h. b.right (a.right h);
+  drawn = λ h. b.drawn (a.drawn h);
 }
 
 pub front_get : {X : Type 0} (xs ys : List X) → IsFront xs ys → (i : ℕ) (x : X) → slice_get xs i ≡ Some x → slice_get ys i ≡ Some x

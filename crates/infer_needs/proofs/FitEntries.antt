@@ -30,7 +30,7 @@ module _
     pub fits : GoalIsFit raw sc.params a
     pub written : IsProvable a
 
-  need_right : (m : ExprOrPatId) (k : ℕ) (a : Asked) → slice_get (node_needs raw b r m) k ≡ Some a → IsRight a
+  pub need_right : (m : ExprOrPatId) (k : ℕ) (a : Asked) → slice_get (node_needs raw b r m) k ≡ Some a → IsRight a
   need_right m k a among = record {
     fits = each_get (GoalIsFit raw sc.params) (node_needs raw b r m) k a (needs_fit raw law d r table b m) among;
     written = each_get IsProvable (node_needs raw b r m) k a (node_provable raw law d r table b m) among;
@@ -39,7 +39,7 @@ module _
   read_fits : (a c : Asked) → GoalReads f depth a c → GoalIsFit raw sc.params a → GoalIsFit raw sc.params c
   read_fits a c reads h = subst (λ (m : ℕ). GoalIsFit raw m c) same (goal_reads_fit raw law (scope_item raw d) f of_item depth a c reads (subst (λ (m : ℕ). GoalIsFit raw m a) (sym same) h))
 
-  read_right : (a c : Asked) → GoalReads f depth a c → IsRight a → IsRight c
+  pub read_right : (a c : Asked) → GoalReads f depth a c → IsRight a → IsRight c
   read_right a c reads h = record {
     fits = read_fits a c reads h.fits;
     written = term_reads_written raw law (scope_item raw d) f of_item depth a.parts c.parts reads.parts h.written;

@@ -1,7 +1,7 @@
 -- Goals that the nodes of a typed body need fit, and so does what these read as.
 use Rattle.std.specs.Prelude.{◌≡◌, ◌<◌, ◌+◌, ◌==◌, ℕ, zero, suc, true, List, [], ◌∷◌, length, map, slice_get, Option, Some, None, option_map, refl}
 use Rattle.std.proofs.Common.{arith, sym, ap, ◌∙◌, subst, true≢false}
-use Rattle.infer_needs.specs.Words.{DefWithBodyId, ExprOrPatId, GenericDefId, TypeAliasId, TypeRefId, AliasBound, GenericArg, GenericArg-F, out-GenericArg, roll-out-GenericArg, TraitRef, Ty, Ty-F, out-Ty, roll-out-Ty, arg_as_type, in_arg, in_ty, Term, hole, leaf, pair, chain, arg_step, ty_step, term, arg_term, terms, term_at, arg_term_at, term_error, RawAdt, RawBody, RawExpr, RawFacts, RawFn, RawGoal, RawPath, RawTrait, RawType, RawVariant, arg_types, fn_aliases, variant_aliases, scope_of, params_of, adt_params, alias_params, alias_params_by, has_params, count_or_none, generic_params, AllHold, GoalExists, AliasIdsExist, params_in, wrongs_in, wrong_args, IsLawful, adt_ids, fn_ids, fns_fit, variants_fit, plain, role, ReadsAs, Kind, implements, projects, Asked, System, Each, answers, args_at, goal_at, preds_or_none, IsSystemOf, InferenceResult, alias_goals_by, alias_goals_from, fn_alias_goals, variant_alias_goals, path_alias_goals, alias_goals, variant_preds, path_preds, expr_preds, item_args, item_path, needed_goals, needs_of, pat_needs_by, pat_needs_of, node_needs, GoalReads, recorded, IsTableOf, width}
+use Rattle.infer_needs.specs.Words.{DefWithBodyId, ExprOrPatId, GenericDefId, TypeAliasId, TypeRefId, AliasBound, GenericArg, GenericArg-F, out-GenericArg, roll-out-GenericArg, TraitRef, Ty, Ty-F, out-Ty, roll-out-Ty, arg_as_type, in_arg, in_ty, Term, hole, leaf, pair, chain, arg_step, ty_step, term, arg_term, terms, term_at, arg_term_at, term_error, RawAdt, RawBody, RawExpr, RawFacts, RawFn, RawGoal, RawPath, RawTrait, RawType, RawVariant, arg_types, fn_aliases, variant_aliases, scope_of, params_of, adt_params, alias_params, alias_params_by, has_params, count_or_none, generic_params, AllHold, GoalExists, AliasIdsExist, params_in, wrongs_in, wrong_args, IsLawful, adt_ids, fn_ids, fns_fit, variants_fit, plain, role, ReadsAs, Kind, implements, projects, Asked, System, Each, answers, args_at, goal_at, preds_or_none, IsSystemOf, InferenceResult, alias_goals_by, alias_goals_from, fn_alias_goals, variant_alias_goals, path_alias_goals, alias_goals, variant_preds, path_preds, expr_preds, item_args, item_path, needed_goals, needs_of, pat_needs_by, pat_needs_of, node_needs, GoalReads, recorded, IsTableOf, width, RawImpl}
 use Rattle.hir_types.specs.declared.ids.ExprOrPatId.TheVariants as node
 use Rattle.hir_types.specs.declared.head.Head.TheVariants as head
 use Rattle.hir_types.specs.Assigned.{type_of}
@@ -15,8 +15,8 @@ use Rattle.infer_needs.proofs.Words.{ReadsBy, each_append}
 use Rattle.infer_needs.proofs.Closed.{both}
 use Rattle.infer_needs.specs.Own.{are_types, takes, is_fit, Fits, AskedFits, GoalIsFit}
 use Rattle.infer_needs.proofs.FitTerms.{type_same}
-use Rattle.infer_needs.proofs.FitSources.{GoalIsCounted, both_true, alias_counted, type_fits_at, args_fit_at, args_are_types, args_taken, adts_fit, goal_counted}
-use Rattle.infer_needs.proofs.NoPlaceholders.{IsFree, parts_free, own_free, fn_free, variant_free}
+use Rattle.infer_needs.proofs.FitSources.{GoalIsCounted, both_true, alias_counted, type_fits_at, args_fit_at, args_are_types, args_taken, adts_fit, goal_counted, impls_fit}
+use Rattle.infer_needs.proofs.NoPlaceholders.{IsFree, parts_free, own_free, fn_free, variant_free, impls_exist}
 use Rattle.infer_needs.proofs.ReadsFit.{split, reads_fit, still_takes, still_types}
 use Rattle.infer_needs.proofs.Provable.{recorded_at}
 
@@ -44,7 +44,7 @@ same_test m n is = grind arith
 
 module _ (raw : RawFacts) (law : IsLawful raw) where
   aliases_exist : AllHold (AliasIdsExist raw) raw.aliases
-  aliases_exist = law.all.1.1.1.1.1.1.1.1.1.1.1.1.1.1.1.1.1.1.0
+  aliases_exist = law.all.1.1.1.1.1.1.1.1.1.1.1.1.1.1.1.1.1.0
 
   many_taken : (k : TypeAliasId) (ws : List TypeRefId) → k.0 < length raw.aliases → length ws ≡ counts.alias_params raw (slice_get raw.aliases k.0) → has_params (alias_params raw k) (length ws) ≡ true
   many_taken k ws within many =
@@ -78,7 +78,6 @@ module _ (raw : RawFacts) (law : IsLawful raw) where
   path_right (path.Function f) = fn_right f.0
   path_right (path.Ctor v) = variant_right (slice_get raw.variants v.0)
   path_right (path.Local v) = λ k g at. absurd (cc)
-  path_right path.Other = λ k g at. absurd (cc)
 
   expr_right : (x : RawExpr) → AreRight raw (expr_preds raw x)
   expr_right (expr.Path p) = path_right p
@@ -94,6 +93,10 @@ module _ (raw : RawFacts) (law : IsLawful raw) where
           both_true (takes (alias_params raw k) args) (is_fit raw n args) (args_taken raw n xs params (alias_params raw k) (arg_types ws) right.taken) (args_fit_at raw n xs params (arg_types ws) right.counted.0),
           type_fits_at raw n xs params w right.counted.1,
         )
+
+    -- the predicates of an impl
+    pub impl_goal_fits : (i : ℕ) (p : RawImpl) → slice_get raw.impls i ≡ Some p → (k : ℕ) (g : RawGoal) → slice_get p.preds k ≡ Some g → GoalIsFit raw n (goal_at raw xs g)
+    impl_goal_fits i p here k g at = goal_fits g (goal_right (length p.params) g ((impls_exist raw law i p here).preds k g at) ((impls_fit raw law i p here).preds k g at))
 
     goals_fit : (gs : List RawGoal) → AreRight raw gs → Each (GoalIsFit raw n) (map (goal_at raw xs) gs)
     goals_fit [] right = tt
@@ -129,7 +132,6 @@ module _ (raw : RawFacts) (law : IsLawful raw) where
     path_fits (path.Function f) = fn_fits f.0 (slice_get raw.fns f.0) refl
     path_fits (path.Local v) = tt
     path_fits (path.Ctor v) = variant_fits v.0 (slice_get raw.variants v.0) refl
-    path_fits path.Other = tt
 
     alias_needs_fit : (x : RawExpr) → Each (GoalIsFit raw n) (alias_goals raw xs x)
     alias_needs_fit (expr.Path p) = path_fits p

@@ -2,13 +2,14 @@
 use Rattle.std.specs.Prelude.{◌≡◌, ℕ, zero, suc, true, List, [], ◌∷◌, map, slice_get, Some}
 use Rattle.std.proofs.Common.{inl, inr, sym, ap, ◌∙◌, subst, true≢false}
 use Rattle.std.proofs.lemmas.Option.{same_Some}
-use Rattle.infer_needs.specs.Words.{Goal, GenericDefId, TypeAliasId, GenericArg, Ty, Term, hole, leaf, pair, chain, term, arg_term, term_projection, RawFacts, alias_params, has_params, generic_params, IsLawful, width, Kind, implements, projects, Asked, System, alias, role, alias_at, asked_goal, TypeReads, IsSystemOf, IsPartOf}
+use Rattle.infer_needs.specs.Words.{Goal, GenericDefId, TypeAliasId, GenericArg, Ty, Term, hole, leaf, pair, chain, term, arg_term, term_projection, RawFacts, alias_params, has_params, generic_params, IsLawful, width, Kind, implements, projects, Asked, System, alias, role, alias_at, asked_goal, TypeReads, IsSystemOf, IsPartOf, staying}
 use Rattle.hir_types.specs.declared.head.Head.TheVariants as head
 use Rattle.hir_types.specs.declared.ty.Ty.TheVariants as ty
 use Rattle.infer_needs.specs.Own.{are_types, takes, is_fit, Fits, AskedFits, FitsIn, GoalFitsIn, GoalsFitIn, TakesThese, AliasesFitIn, AliasFitsHere, EntryFitsIn}
 use Rattle.infer_needs.proofs.Closed.{both}
 use Rattle.infer_needs.proofs.FitSources.{both_true}
 use Rattle.infer_needs.proofs.ReadsFit.{split, role_alias, reads_fit}
+use Rattle.hir_types.specs.declared.goal.Goal.TheVariants as goal
 
 -- ---- what stands in a term that fits
 
@@ -71,6 +72,13 @@ module _ (raw : RawFacts) (item : GenericDefId) where
   goal_fits_at [] i q h at = absurd (cc)
   goal_fits_at (x ∷ qs) zero q h at = subst (λ y. GoalFitsIn raw item (asked_goal y)) (same_Some x q at) h.0
   goal_fits_at (x ∷ qs) (suc i) q h at = goal_fits_at qs i q h.1 at
+
+-- the goal that it is a type that fits
+pub entry_goal : (raw : RawFacts) (item : GenericDefId) (k : TypeAliasId) (w : Term) (zs : List GenericArg) (u : Ty) → chain (map arg_term zs) ≡ w → TakesThese raw k w → FitsIn raw item w → EntryFitsIn raw item (ty.Projection k zs, u)
+    → GoalFitsIn raw item (asked_goal (goal.Projection k zs u))
+entry_goal raw item k w zs u is many fits entry =
+    let own = generic_params raw item in
+    (subst (λ c. Fits raw own (staying k c)) (sym is) (both_true (takes (alias_params raw k) w) (is_fit raw own w) many fits), entry.1)
 
 -- ---- what is read
 

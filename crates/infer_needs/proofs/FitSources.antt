@@ -144,16 +144,16 @@ maybe_counted raw goals (Some x) each = each x refl
 
 module _ (raw : RawFacts) (law : IsLawful raw) where
   pub adts_fit : AllHold (λ i a. AdtFits raw a) raw.adts
-  adts_fit = law.all.1.1.1.1.1.1.1.1.1.1.1.1.1.1.1.1.1.1.1.1.1.1.0
+  adts_fit = law.all.1.1.1.1.1.1.1.1.1.1.1.1.1.1.1.1.1.1.1.1.1.0
 
   traits_fit : AllHold (λ i t. TraitFits raw t) raw.traits
-  traits_fit = law.all.1.1.1.1.1.1.1.1.1.1.1.1.1.1.1.1.1.1.1.1.1.1.1.1.1.0
+  traits_fit = law.all.1.1.1.1.1.1.1.1.1.1.1.1.1.1.1.1.1.1.1.1.1.1.1.1.0
 
   pub aliases_fit : AllHold (λ i a. AliasFits raw a) raw.aliases
-  aliases_fit = law.all.1.1.1.1.1.1.1.1.1.1.1.1.1.1.1.1.1.1.1.1.1.1.1.1.1.1.0
+  aliases_fit = law.all.1.1.1.1.1.1.1.1.1.1.1.1.1.1.1.1.1.1.1.1.1.1.1.1.1.0
 
   pub impls_fit : AllHold (λ i p. ImplFits raw p) raw.impls
-  impls_fit = law.all.1.1.1.1.1.1.1.1.1.1.1.1.1.1.1.1.1.1.1.1.1.1.1.1.1.1.1.0
+  impls_fit = law.all.1.1.1.1.1.1.1.1.1.1.1.1.1.1.1.1.1.1.1.1.1.1.1.1.1.1.0
 
   pub trait_counted : (t : TraitId) → GoalsAreCounted raw (trait_preds raw t)
   trait_counted t = maybe_counted raw (λ (x : RawTrait). x.preds) (slice_get raw.traits t.0) (λ x here. goals_counted raw (length x.params + 1) x.preds (traits_fit t.0 x here))

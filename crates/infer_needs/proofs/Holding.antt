@@ -3,7 +3,7 @@ use Rattle.std.specs.Prelude.{◌≡◌, ◌⊎◌, ◌<◌, ℕ, zero, suc, Lis
 use Rattle.std.specs.Option.{option_and_then}
 use Rattle.std.proofs.Common.{inl, inr, refl, sym, ap, ◌∙◌, subst, arith}
 use Rattle.std.proofs.lemmas.Option.{same_Some, slice_get_within}
-use Rattle.infer_needs.specs.Words.{BodyId, ExprOrPatId, DefWithBodyId, Head, Ty, RawBody, RawExpr, RawFacts, body_of, body_id_of, Asked, System, Proof, asked_goal, IsWrittenHead, IsWritten, Term, hole, leaf, pair, IsSystemOf, Gap, InferenceResult, GoalReads, HasEntry, IsAboutAlias, IsFound, AreFound, MayHold, IsNeeded, HoldsUnknown, HoldsNoHole, IsProved, gap_says, HasGap, IsUnproved, IsClash, IsTrueGap, with_goals, scope_item, GoalsHold, HasNoneLeft, needs_of, pat_needs_of, node_needs, Given, listed_gaps, recorded, given}
+use Rattle.infer_needs.specs.Words.{BodyId, ExprOrPatId, DefWithBodyId, Head, Ty, RawBody, RawExpr, RawFacts, body_of, body_id_of, Asked, System, Proof, asked_goal, IsWrittenHead, IsWritten, Term, hole, leaf, pair, IsSystemOf, Gap, InferenceResult, GoalReads, HasEntry, IsAboutAlias, IsFound, AreFound, MayHold, IsNeeded, HoldsUnknown, HoldsNoHole, IsProved, gap_says, HasGap, IsUnproved, IsClash, IsTrueGap, with_goals, scope_item, GoalsHold, HasNoneLeft, needs_of, pat_needs_of, node_needs, Given, listed_gaps, recorded, given, Scope, scope_of}
 use Rattle.hir_types.specs.declared.ids.ExprOrPatId.TheVariants as node
 use Rattle.hir_types.specs.declared.goal.Goal.TheVariants as goal
 use Rattle.hir_types.specs.declared.head.Head.TheVariants as head
@@ -57,8 +57,11 @@ each_provable (x ∷ xs) (suc k) a h at = each_provable xs k a h.1 at
 
 module _ (raw : RawFacts) (d : DefWithBodyId) (b : RawBody) (f : System) (r : InferenceResult) (ps qs : List Proof) (js ks : List (Ty × Ty)) (gss hss : List (List Gap))
     (of_item : IsSystemOf raw (scope_item raw d) f) (items : length r.item_of_pat ≡ length b.pats)
-    (exprs : AreAllJudged raw f b r (length b.exprs) ps js gss) (pats : ArePatsJudged raw f r (length b.pats) ps qs js ks hss) (distinct : AreDistinct ks)
+    (exprs : AreAllJudged raw (scope_of raw d) f b r (length b.exprs) ps js gss) (pats : ArePatsJudged raw (scope_of raw d) f r (length b.pats) ps qs js ks hss) (distinct : AreDistinct ks)
     (provable : (n : ExprOrPatId) → AreProvable (node_needs raw b r n)) where
+  abbrev sc : Scope
+  sc = scope_of raw d
+
   abbrev g : Given
   g = given raw d b
 
@@ -66,11 +69,11 @@ module _ (raw : RawFacts) (d : DefWithBodyId) (b : RawBody) (f : System) (r : In
   z = with_goals qs ks gss hss r
 
   abbrev Done : ExprOrPatId → List Gap → Type 0
-  Done n gs = AreDone f raw.limits.goal_depth n (node_needs raw b r n) qs ks gs
+  Done n gs = AreDone sc f raw.limits.goal_depth n (node_needs raw b r n) qs ks gs
 
   -- at each node
   done_at : (n : ExprOrPatId) (gs : List Gap) → listed_gaps z n ≡ Some gs → Done n gs
-  done_at (node.ExprId e) gs at = done_still f raw.limits.goal_depth (node.ExprId e) (node_needs raw b r (node.ExprId e)) ps qs js ks gs pats.adds.behind pats.lists.behind (exprs.each e.0 gs at)
+  done_at (node.ExprId e) gs at = done_still sc f raw.limits.goal_depth (node.ExprId e) (node_needs raw b r (node.ExprId e)) ps qs js ks gs pats.adds.behind pats.lists.behind (exprs.each e.0 gs at)
   done_at (node.PatId p) gs at = pats.each p.0 gs at
 
   needs_same : (n : ExprOrPatId) → node_needs raw b z n ≡ node_needs raw b r n
@@ -95,13 +98,13 @@ module _ (raw : RawFacts) (d : DefWithBodyId) (b : RawBody) (f : System) (r : In
   is_proved : (a : Asked) → HasProofOf qs a → IsProved z a
   is_proved a h = record { number = h.0; proof = h.1; listed = h.2; goal = h.3 }
 
-  done_is : (n : ExprOrPatId) (a : Asked) (gs : List Gap) → listed_gaps z n ≡ Some gs → IsDone f raw.limits.goal_depth n qs ks gs a → IsProved z a ⊎ (IsUnproved z n a ⊎ MayHold f raw.limits.goal_depth a)
+  done_is : (n : ExprOrPatId) (a : Asked) (gs : List Gap) → listed_gaps z n ≡ Some gs → IsDone sc f raw.limits.goal_depth n qs ks gs a → IsProved z a ⊎ (IsUnproved z n a ⊎ MayHold sc f raw.limits.goal_depth a)
   done_is n a gs at (inl h) = inl (is_proved a h.0)
   done_is n a gs at (inr (inl h)) = inr (inl (h.1, record { gaps = gs; at = at; number = h.0; listed = h.2 }, h.3))
   done_is n a gs at (inr (inr h)) = inr (inr h)
 
   -- where it asks for an associated type, once it is read
-  listed_is : (n : ExprOrPatId) (a b : Asked) (gs : List Gap) → listed_gaps z n ≡ Some gs → ReadsAbout f raw.limits.goal_depth a b → IsDone f raw.limits.goal_depth n qs ks gs a → HasEntry ks b ⊎ (IsClash z n b ⊎ IsUnproved z n a)
+  listed_is : (n : ExprOrPatId) (a b : Asked) (gs : List Gap) → listed_gaps z n ≡ Some gs → ReadsAbout f raw.limits.goal_depth a b → IsDone sc f raw.limits.goal_depth n qs ks gs a → HasEntry ks b ⊎ (IsClash z n b ⊎ IsUnproved z n a)
   listed_is n a b gs at about (inl h) = elim (h.1 b about) [
     | inl k ↦ inl k
     | inr k ↦ inr (inl (k.1, k.2, k.3, k.4, record { gaps = gs; at = at; number = k.0; listed = k.5 }, k.6))
@@ -113,7 +116,7 @@ module _ (raw : RawFacts) (d : DefWithBodyId) (b : RawBody) (f : System) (r : In
   record Became (n : ExprOrPatId) (a : Asked) : Type 0 where
     gaps : List Gap
     at : listed_gaps z n ≡ Some gaps
-    done : IsDone f raw.limits.goal_depth n qs ks gaps a
+    done : IsDone sc f raw.limits.goal_depth n qs ks gaps a
 
   became : (n : ExprOrPatId) (a : Asked) → IsNeeded g z n a → Became n a
   became n a is =
@@ -121,7 +124,7 @@ module _ (raw : RawFacts) (d : DefWithBodyId) (b : RawBody) (f : System) (r : In
       let there = gaps_there n is.at a among in
       record { gaps = there.0; at = there.1; done = (done_at n there.0 there.1).each is.at a among }
 
-  need_holds : (n : ExprOrPatId) (a : Asked) → IsNeeded g z n a → IsProved z a ⊎ (IsUnproved z n a ⊎ MayHold f raw.limits.goal_depth a)
+  need_holds : (n : ExprOrPatId) (a : Asked) → IsNeeded g z n a → IsProved z a ⊎ (IsUnproved z n a ⊎ MayHold sc f raw.limits.goal_depth a)
   need_holds n a is = (let h = became n a is in done_is n a h.gaps h.at h.done)
 
   entry_holds : (n : ExprOrPatId) (a b : Asked) → IsNeeded g z n a → (HoldsUnknown a.parts → ⊥) → GoalReads f raw.limits.goal_depth a b → IsAboutAlias b → HasEntry ks b ⊎ (IsClash z n b ⊎ IsUnproved z n a)
@@ -142,7 +145,7 @@ module _ (raw : RawFacts) (d : DefWithBodyId) (b : RawBody) (f : System) (r : In
   are_found : AreFound z
   are_found = record { each = λ k x at. entry_is x (pats.lists.right exprs.entries k x at); once = distinct }
 
-  gap_is : (n : ExprOrPatId) (x : Gap) → IsOfFailing f raw.limits.goal_depth n (node_needs raw b r n) x ⊎ IsOfClash f raw.limits.goal_depth n (node_needs raw b r n) qs ks x → IsTrueGap g f z n x
+  gap_is : (n : ExprOrPatId) (x : Gap) → IsOfFailing sc f raw.limits.goal_depth n (node_needs raw b r n) x ⊎ IsOfClash f raw.limits.goal_depth n (node_needs raw b r n) qs ks x → IsTrueGap g f z n x
   gap_is n x (inl h) = subst (IsTrueGap g f z n) (sym h.is) (
     refl,
     record {

@@ -121,7 +121,7 @@ module _ (raw : RawFacts) (f : System) (k : TypeAliasId) (w : Term) (zs : List G
     reads_unknown js h xs e u r = inr (inr (subst (λ (a : Asked). HoldsUnknown a.parts) (same_goal xs u e r) h))
 
     -- its entry is added
-    module _ (item : GenericDefId) (fits : EntryFitsIn raw item (ty.Projection k zs, v)) (ps qs : List Proof) (js : List (Ty × Ty)) (adds : AddsProofs raw f ps qs) (roots : AddsRootsOf [] ps qs) (args_read : IsRead (chain (map arg_term zs))) (proved : HasProofOf qs (asked_goal (goal.Projection k zs v))) (known : HoldsUnknown (asked_goal (goal.Projection k zs v)).parts → ⊥) (other : term v ≡ stays_at k zs → ⊥) (written : IsWritten (asked_goal (goal.Projection k zs v)).parts) (here : WereRead f n js) where
+    module _ (item : GenericDefId) (fits : EntryFitsIn raw item (ty.Projection k zs, v)) (ps qs : List Proof) (js : List (Ty × Ty)) (adds : AddsProofs raw f ps qs) (roots : AddsRootsOf raw item f [] ps qs) (args_read : IsRead (chain (map arg_term zs))) (proved : HasProofOf qs (asked_goal (goal.Projection k zs v))) (known : HoldsUnknown (asked_goal (goal.Projection k zs v)).parts → ⊥) (other : term v ≡ stays_at k zs → ⊥) (written : IsWritten (asked_goal (goal.Projection k zs v)).parts) (here : WereRead f n js) where
       abbrev more : List (Ty × Ty)
       more = js ++ (ty.Projection k zs, v) ∷ []
 

@@ -8,6 +8,7 @@ pub mod Rooted
 pub mod Coming
 pub mod Judging
 pub mod Opening
+pub mod ReadableGoals
 pub mod ReadsYes
 pub mod ReadGoals
 pub mod FitTerms
@@ -18,6 +19,7 @@ pub mod FitTypes
 pub mod FitEntries
 pub mod FitParts
 pub mod FitWritten
+pub mod ProofsFit
 pub mod Leaving
 pub mod Writing
 pub mod Holding

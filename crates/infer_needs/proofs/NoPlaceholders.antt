@@ -174,13 +174,13 @@ module _ (raw : RawFacts) (law : IsLawful raw) where
   -- ---- predicates and bounds
 
   traits_exist : AllHold (TraitIdsExist raw) raw.traits
-  traits_exist = law.all.1.1.1.1.1.1.1.1.1.1.1.1.1.1.1.1.1.0
+  traits_exist = law.all.1.1.1.1.1.1.1.1.1.1.1.1.1.1.1.1.0
 
   aliases_exist : AllHold (AliasIdsExist raw) raw.aliases
-  aliases_exist = law.all.1.1.1.1.1.1.1.1.1.1.1.1.1.1.1.1.1.1.0
+  aliases_exist = law.all.1.1.1.1.1.1.1.1.1.1.1.1.1.1.1.1.1.0
 
-  impls_exist : AllHold (λ i p. ImplIdsExist raw p) raw.impls
-  impls_exist = law.all.1.1.1.1.1.1.1.1.1.1.1.1.1.1.1.1.1.1.1.0
+  pub impls_exist : AllHold (λ i p. ImplIdsExist raw p) raw.impls
+  impls_exist = law.all.1.1.1.1.1.1.1.1.1.1.1.1.1.1.1.1.1.1.0
 
   pub trait_has_none : (t : TraitId) → GoalsHaveNoHole raw (trait_preds raw t)
   trait_has_none t = maybe_none (λ (x : RawTrait). x.preds) raw.traits in_traits t.0 (slice_get raw.traits t.0) refl (λ x here. (traits_exist t.0 x here).preds)

@@ -42,7 +42,6 @@ module _ (raw : RawFacts) (law : IsLawful raw) (xs : List GenericArg) (args : Ar
   preds_provable (path.Function f) = goals_provable (env_preds raw (generic.FunctionId f)) (preds_have_none raw law (generic.FunctionId f))
   preds_provable (path.Local v) = tt
   preds_provable (path.Ctor v) = of_variant (slice_get raw.variants v.0)
-  preds_provable path.Other = tt
 
   expr_preds_provable : (x : RawExpr) → AreProvable (map (goal_at raw xs) (expr_preds raw x))
   expr_preds_provable (expr.Path p) = preds_provable p
@@ -71,7 +70,6 @@ module _ (raw : RawFacts) (law : IsLawful raw) (xs : List GenericArg) (args : Ar
   path_provable (path.Function f) = fn_provable f.0 (slice_get raw.fns f.0) refl
   path_provable (path.Local v) = tt
   path_provable (path.Ctor v) = variant_provable v.0 (slice_get raw.variants v.0) refl
-  path_provable path.Other = tt
 
   alias_needs_provable : (x : RawExpr) → AreProvable (alias_goals raw xs x)
   alias_needs_provable (expr.Path p) = path_provable p

@@ -9,11 +9,12 @@ use Rattle.hir_types.specs.declared.ty.GenericArg.TheVariants as arg
 use Rattle.hir_types.specs.declared.ty.Ty.TheVariants as ty
 use Rattle.infer_needs.specs.Words.hir_raw.declared.raw.RawGoal.TheVariants as raw_goal
 use Rattle.infer_needs.specs.Words.goal_answers.Reading.{Role}
+use Rattle.goal_facts.specs.Own.{said_trait}
 use Rattle.infer_needs.proofs.Words.{one_some, ReadsBy, MayReadBy, stands_by, reads_may, occurs_type, each_append, top_type}
 use Rattle.infer_needs.specs.Words.goal_facts.Environment.{Follows}
 use Rattle.infer_needs.proofs.Closed.{both}
 use Rattle.infer_needs.proofs.NoPlaceholders.{each_flat}
-use Rattle.infer_needs.specs.Own.{is_type, are_types, takes, may_follow, is_fit, Fits}
+use Rattle.infer_needs.specs.Own.{is_type, are_types, takes, may_follow, is_fit, Fits, AskedFits, GoalIsFit}
 use Rattle.infer_needs.proofs.FitSources.{IsCounted, AreCounted, GoalIsCounted, both_true, type_fits_at, args_fit_at, trait_counted, preds_counted, bounds_counted, given_counted}
 use Rattle.infer_needs.proofs.ReadsYes.{some_give}
 
@@ -78,6 +79,17 @@ module _ (raw : RawFacts) (n : ℕ) where
         first = filled_fits p a s.first (λ k o. fills k (or_left (occurs k a) (occurs k b) o));
         rest = filled_fits p b s.rest (λ k o. fills k (or_right (occurs k a) (occurs k b) o));
       })
+
+  asked_by : (p : Fill) (c : Kind) (t : Term) → AskedFits raw n c t → ((k : Hole) → occurs k t ≡ true → Fits raw n (p k)) → AskedFits raw n c (apply p t)
+  asked_by p (implements i) t h fills = ((types_filled p t h.0).types, filled_fits p t h.1 fills)
+  asked_by p (projects j) (pair a b) h fills =
+      (filled_fits p (staying j a) h.0 (λ k o. fills k (or_left (occurs k a) (occurs k b) o)), filled_fits p b h.1 (λ k o. fills k (or_right (occurs k a) (occurs k b) o)))
+  asked_by p (projects j) (hole i) h fills = absurd h
+  asked_by p (projects j) (leaf x) h fills = absurd h
+
+  -- a goal whose holes are filled with what fits
+  pub asked_filled : (p : Fill) (a : Asked) → GoalIsFit raw n a → ((k : Hole) → occurs k a.parts ≡ true → Fits raw n (p k)) → GoalIsFit raw n (asked_at p a)
+  asked_filled p a h fills = asked_by p a.kind a.parts h fills
 
   nth_fits : (m : ℕ) (ts u : Term) → IsNth m ts u → Fits raw n ts → Fits raw n u
   nth_fits zero (pair (pair x t) b) u l h = subst (Fits raw n) (sym l) (split raw n x t (split raw n (pair x t) b h).first).rest
@@ -217,7 +229,7 @@ module _ (raw : RawFacts) (n : ℕ) where
   vars_fit : (ks : List ℕ) → AllFit (λ k. ty.Var k) ks
   vars_fit ks i k at = subst (Fits raw n) (sym (term_var k)) refl
 
-  hole_params_fit : (c m : ℕ) → Fits raw n (term ((with_params (holes c)).param m))
+  pub hole_params_fit : (c m : ℕ) → Fits raw n (term ((with_params (holes c)).param m))
   hole_params_fit c m = param_fits (λ k. ty.Var k) (range_with_len 0 c) (vars_fit (range_with_len 0 c)) m
 
   -- ---- goals
@@ -267,7 +279,7 @@ module _ (raw : RawFacts) (law : IsLawful raw) (n : ℕ) where
   -- ---- what bounds say
 
   aliases_exist : AllHold (AliasIdsExist raw) raw.aliases
-  aliases_exist = law.all.1.1.1.1.1.1.1.1.1.1.1.1.1.1.1.1.1.1.0
+  aliases_exist = law.all.1.1.1.1.1.1.1.1.1.1.1.1.1.1.1.1.1.0
 
   trait_there : (ts : List RawTrait) (i : ℕ) → i < length ts → (x : RawTrait) × (slice_get ts i ≡ Some x)
   trait_there [] i lt = absurd (omega (arith, lt))
@@ -320,7 +332,7 @@ module _ (raw : RawFacts) (law : IsLawful raw) (n : ℕ) where
       given (x ∷ gs) all = (λ k is. type_fits_at raw n (impl_holes p) (hole_params_fit raw n (length p.params)) x.ty (all 0 x refl), given gs (λ k y at. all (suc k) y at))
 
   impls_fit : Each (RuleFits raw n) (flat_map (impl_rules raw) raw.impls)
-  impls_fit = each_flat (RuleFits raw n) (impl_rules raw) raw.impls (λ i p here. impl_fits i p here p.trait_)
+  impls_fit = each_flat (RuleFits raw n) (impl_rules raw) raw.impls (λ i p here. impl_fits i p here (said_trait raw p.trait_))
 
 -- ---- what an item states
 

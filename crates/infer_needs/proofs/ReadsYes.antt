@@ -1,18 +1,21 @@
 -- What an associated type reads as, where it doesn't stay, it is by a goal whose answer is Yes at that depth; and what is read of types
 -- without holes is without.
-use Rattle.std.specs.Prelude.{◌≡◌, ℕ, zero, suc, true, List, [], ◌∷◌, length, map, flat_map, slice_get, Option, Some, None, refl}
+use Rattle.std.specs.Prelude.{◌≡◌, ℕ, zero, suc, true, List, [], ◌∷◌, length, map, flat_map, slice_get, Option, Some, None, refl, option_map}
 use Rattle.std.specs.List.{range_with_len}
 use Rattle.std.proofs.Common.{inl, inr, sym, ap, ◌∙◌, subst, true≢false}
 use Rattle.std.proofs.lemmas.Bool.{or_cases, or_left, or_right}
-use Rattle.infer_needs.specs.Words.{GenericDefId, TypeAliasId, TypeRefId, Hole, GenericArg, Ty, arg_as_type, with_params, Term, hole, leaf, pair, chain, apply, occurs, hole_number, term, arg_term, term_param, term_projection, term_error, term_var, arg_term_type, hole_eq_true, hole_eq_same, RawAssocType, RawFacts, RawGoal, RawImpl, RawTraitRef, arg_types, count_or_none, params_in_trait, generic_params, HasNoHole, IsLawful, Fill, plain, alias, role, staying, stands, IsRead, Aliases, Reads, ReadsAs, MayRead, Kind, projects, Asked, Rule, System, args_of, type_of, key, IsKnown, Each, SomeOf, OneOf, Verdicts, IsNth, IsRefuted, Gives, GivesNone, alias_next, Proves, ShadowsNot, HasSource, answers, holes, own_params, type_at, args_at, goal_at, BoundSays, IsListed, IsStated, trait_holes, IsSuper, asked_goal, impl_args, assoc_rule, rules_for, impl_rules, TypeReads, fact, IsSystemOf, IsWrittenHead, IsWritten, stays_at}
+use Rattle.infer_needs.specs.Words.{GenericDefId, TypeAliasId, TypeRefId, Hole, GenericArg, Ty, arg_as_type, with_params, Term, hole, leaf, pair, chain, apply, occurs, hole_number, term, arg_term, term_param, term_projection, term_error, term_var, arg_term_type, hole_eq_true, hole_eq_same, RawAssocType, RawFacts, RawGoal, RawImpl, RawTraitRef, arg_types, count_or_none, params_in_trait, generic_params, HasNoHole, IsLawful, Fill, plain, alias, role, staying, stands, IsRead, Aliases, Reads, ReadsAs, MayRead, Kind, projects, Asked, Rule, System, args_of, type_of, key, IsKnown, Each, SomeOf, OneOf, Verdicts, IsNth, IsRefuted, Gives, GivesNone, alias_next, Proves, ShadowsNot, HasSource, answers, holes, own_params, type_at, args_at, goal_at, BoundSays, IsListed, IsStated, trait_holes, IsSuper, asked_goal, impl_args, assoc_rule, rules_for, impl_rules, TypeReads, fact, IsSystemOf, IsWrittenHead, IsWritten, stays_at, env_preds, preds_or_none}
 use Rattle.hir_types.specs.declared.goal.Goal.TheVariants as goal
 use Rattle.hir_types.specs.declared.ty.GenericArg.TheVariants as arg
 use Rattle.hir_types.specs.declared.ty.Ty.TheVariants as ty
 use Rattle.infer_needs.specs.Words.hir_raw.declared.raw.RawGoal.TheVariants as raw_goal
 use Rattle.infer_needs.specs.Words.goal_answers.Reading.{Role}
+use Rattle.goal_facts.specs.Own.{said_trait}
+use Rattle.goal_facts.proofs.Saying.{said_is}
 use Rattle.infer_needs.proofs.Words.{or_map, one_some, each_with, ReadsBy, MayReadBy, stands_by, AliasWithin, role_read, read_reads, reads_within, reads_may, reads_one as same_reading, within_itself, refuted_more, one_deeper, occurs_type, answers_sound, answers_read, reads_read as reading_is_read, each_append, top_type}
 use Rattle.infer_needs.specs.Words.goal_facts.Environment.{Follows}
 use Rattle.infer_needs.proofs.NoPlaceholders.{HaveNoHole, GoalHasNoHole, holds_at, args_hold_at, goal_holds_at, each_flat, trait_has_none, preds_have_none, bounds_have_none, impl_has_none, given_has_none}
+use Rattle.hir_types.specs.declared.ids.GenericDefId.TheVariants as generic
 
 -- ---- readings
 
@@ -43,7 +46,7 @@ facts_plain : (ds : List Asked) → Each (λ (r : Rule). r.preds ≡ []) (map fa
 facts_plain [] = tt
 facts_plain (d ∷ ds) = (refl, facts_plain ds)
 
-clauses_plain : (raw : RawFacts) (item : GenericDefId) (f : System) → IsSystemOf raw item f → Each (λ (r : Rule). r.preds ≡ []) f.clauses
+pub clauses_plain : (raw : RawFacts) (item : GenericDefId) (f : System) → IsSystemOf raw item f → Each (λ (r : Rule). r.preds ≡ []) f.clauses
 clauses_plain raw item f of = subst (Each (λ (r : Rule). r.preds ≡ [])) (sym of.clauses.are) (facts_plain of.clauses.stated)
 
 -- ---- what gives an alias its type proves the goal that it is that, one step deeper
@@ -123,6 +126,12 @@ filled_heads p (hole j) h fills = fills j (hole_eq_same j)
 filled_heads p (leaf x) h fills = h
 filled_heads p (pair a b) h fills =
     (filled_heads p a h.0 (λ k o. fills k (or_left (occurs k a) (occurs k b) o)), filled_heads p b h.1 (λ k o. fills k (or_right (occurs k a) (occurs k b) o)))
+
+filled_written : (p : Fill) (t : Term) → HasWrittenHeads t → ((k : Hole) → occurs k t ≡ true → IsWritten (p k)) → IsWritten (apply p t)
+filled_written p (hole j) h fills = fills j (hole_eq_same j)
+filled_written p (leaf x) h fills = h
+filled_written p (pair a b) h fills =
+    (filled_written p a h.0 (λ k o. fills k (or_left (occurs k a) (occurs k b) o)), filled_written p b h.1 (λ k o. fills k (or_right (occurs k a) (occurs k b) o)))
 
 nth_heads : (n : ℕ) (ts u : Term) → IsNth n ts u → HasWrittenHeads ts → HasWrittenHeads u
 nth_heads zero (pair (pair m t) b) u l h = subst HasWrittenHeads (sym l) h.0.1
@@ -228,12 +237,21 @@ module _ (raw : RawFacts) (law : IsLawful raw) where
     assoc_heads [] none = tt
     assoc_heads (x ∷ xs) none = ((impl_args_heads, type_at_heads raw (holes n) (hole_params n) x.ty (none 0 x refl)), assoc_heads xs (λ k y at. none (suc k) y at))
 
-  impl_heads : (i : ℕ) (p : RawImpl) → slice_get raw.impls i ≡ Some p → (o : Option RawTraitRef) → p.trait_ ≡ o → Each IsWrittenRule (rules_for raw p o)
+  impl_heads : (i : ℕ) (p : RawImpl) → slice_get raw.impls i ≡ Some p → (o : Option RawTraitRef) → ((t : RawTraitRef) → o ≡ Some t → p.trait_ ≡ Some t) → Each IsWrittenRule (rules_for raw p o)
   impl_heads i p here None is = tt
-  impl_heads i p here (Some t) is = (impl_args_heads i p here t is, assoc_heads i p here t is p.types (given_has_none raw law i p t here is))
+  impl_heads i p here (Some t) is = (impl_args_heads i p here t (is t refl), assoc_heads i p here t (is t refl) p.types (given_has_none raw law i p t here (is t refl)))
+
+  -- a predicate of an impl whose holes are filled
+  pub impl_goal_written : (i : ℕ) (p : RawImpl) → slice_get raw.impls i ≡ Some p → (k : ℕ) (g : RawGoal) → slice_get p.preds k ≡ Some g → (s : Fill)
+      → ((j : Hole) → occurs j (goal_at raw (holes (length p.params)) g).parts ≡ true → IsWritten (s j)) → IsWritten (apply s (goal_at raw (holes (length p.params)) g).parts)
+  impl_goal_written i p here k g at s fills =
+      let id = generic.ImplId (record { 0 = i }) in
+      let are : env_preds raw id ≡ p.preds = ap (λ (o : Option RawImpl). preds_or_none (option_map (λ (x : RawImpl). x.preds) o)) here in
+      let none = preds_have_none raw law id k g (subst (λ gs. slice_get gs k ≡ Some g) (sym are) at) in
+      filled_written s (goal_at raw (holes (length p.params)) g).parts (goal_heads raw (holes (length p.params)) (hole_params (length p.params)) g none) fills
 
   impls_heads : Each IsWrittenRule (flat_map (impl_rules raw) raw.impls)
-  impls_heads = each_flat IsWrittenRule (impl_rules raw) raw.impls (λ i p here. impl_heads i p here p.trait_ refl)
+  impls_heads = each_flat IsWrittenRule (impl_rules raw) raw.impls (λ i p here. impl_heads i p here (said_trait raw p.trait_) (said_is raw p.trait_))
 
 facts_heads : (ds : List Asked) → ((i : ℕ) (d : Asked) → slice_get ds i ≡ Some d → IsWrittenGoal d) → Each IsWrittenRule (map fact ds)
 facts_heads [] h = tt

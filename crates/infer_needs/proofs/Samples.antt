@@ -8,6 +8,7 @@ pub mod Needed
 pub mod Tables
 pub mod WrongTables
 pub mod Taking
+pub mod LeftUnknown
 pub mod TrueComplaint
 pub mod PatternNeeds
 pub mod Left
@@ -19,3 +20,4 @@ pub mod Entries
 pub mod BoolArgs
 pub mod Clashing
 pub mod Clashes
+pub mod ExtraProofs

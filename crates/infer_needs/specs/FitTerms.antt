@@ -1,4 +1,5 @@
--- Which terms those of types that fit are, and which goals fit: what is named takes as many arguments as it is given, and each parameter is in scope.
+-- Which terms those of types that fit are, and which goals fit: what is named takes as many arguments as it is given, and each parameter is
+-- in scope.
 use Rattle.std.specs.Prelude.{◌≡◌, ℕ, Bool, true, false, ◌&&◌, nat_lt, List, slice_get, Option, Some}
 use Rattle.infer_needs.specs.Words.{Head, GenericDefId, TypeAliasId, Ty, Term, hole, leaf, pair, term, RawFacts, adt_params, alias_params, callable_params, has_params, generic_params, width, Kind, implements, projects, Asked, Each, staying, alias_at, IsPartOf}
 use Rattle.hir_types.specs.declared.head.Head.TheVariants as head

@@ -20,17 +20,18 @@ pub record WasRead (f : System) (n : ℕ) (x : Ty × Ty) : Type 0 where
 abbrev pub WereRead : System → ℕ → List (Ty × Ty) → Type 0
 WereRead f n js = (i : ℕ) (x : Ty × Ty) → slice_get js i ≡ Some x → WasRead f n x
 
--- proofs and entries come behind, of what was read if the first were, and that fit if the first do; of a goal about a trait each proof that is added
--- is one that another asks for
+-- proofs and entries come behind, of what was read if the first were, and that fit if the first do; each proof that is added is one that
+-- another asks for, or of a goal about an associated type that fits
 pub record AddsRead (raw : RawFacts) (item : GenericDefId) (f : System) (ps qs : List Proof) (js ks : List (Ty × Ty)) : Type 0 where
   pub adds : AddsProofs raw f ps qs
-  pub roots : AddsRootsOf [] ps qs
+  pub roots : AddsRootsOf raw item f [] ps qs
   pub lists : AddsEntries ps qs js ks
   pub read : WereRead f raw.limits.goal_depth js → WereRead f raw.limits.goal_depth ks
   pub fit : EntriesFitIn raw item js → EntriesFitIn raw item ks
 
 -- so many are added that this holds of all
-pub record Lists (raw : RawFacts) (item : GenericDefId) (f : System) (P : List (Ty × Ty) → Type 0) (ps qs : List Proof) (js ks : List (Ty × Ty)) : Type 0 where
+pub record Lists (raw : RawFacts) (item : GenericDefId) (f : System) (P : List (Ty × Ty) → Type 0) (ps qs : List Proof)
+    (js ks : List (Ty × Ty)) : Type 0 where
   pub adds : AddsRead raw item f ps qs js ks
   pub none : P ks
 

@@ -2,8 +2,9 @@
 use Rattle.std.specs.Prelude.{◌≡◌, ◌++◌, ℕ, zero, suc, List, [], ◌∷◌, length, slice_get, Option, Some, None}
 use Rattle.std.proofs.Common.{◌⊎◌, inl, inr}
 use denote.Ref.{MutBor}
-use Rattle.infer_needs.specs.Words.{DefWithBodyId, ExprOrPatId, Goal, RawBody, RawFacts, Asked, System, Answer, Proof, asked_goal, IsAnswer, IsSystemOf, IsChild, InferenceResult, needs_at, pat_needs_at, scope_item, IsNeeded, Given}
+use Rattle.infer_needs.specs.Words.{DefWithBodyId, ExprOrPatId, Goal, RawBody, RawFacts, Asked, System, Answer, Proof, asked_goal, IsAnswer, IsSystemOf, IsChild, InferenceResult, needs_at, pat_needs_at, scope_item, IsNeeded, Given, IsWritten, GenericDefId, GoalReads}
 use Rattle.hir_types.specs.declared.goal.Goal.TheVariants as goal
+use Rattle.infer_needs.specs.FitTerms.{GoalFitsIn}
 
 -- ---- what nodes need
 
@@ -46,17 +47,32 @@ IsAboutTrait (goal.Projection k xs t) = ⊥
 abbrev pub IsOneOf : List Asked → Asked → Type 0
 IsOneOf xs a = (i : ℕ) × (slice_get xs i ≡ Some a)
 
--- each proof of such a goal is asked for by another, or its goal is one of these
-pub record AreRootsOf (xs : List Asked) (ps : List Proof) : Type 0 where
-  pub each : (k : ℕ) (x : Proof) → slice_get ps k ≡ Some x → IsAboutTrait x.goal → IsChild ps k ⊎ IsOneOf xs (asked_goal x.goal)
+-- one of these reads so
+abbrev pub IsReadOf : System → ℕ → List Asked → Asked → Type 0
+IsReadOf f n xs a = (b : Asked) × IsOneOf xs b × GoalReads f n b a
+
+-- it fits under the parameters of the item, and no hole is in it
+pub record IsRightIn (raw : RawFacts) (item : GenericDefId) (a : Asked) : Type 0 where
+  pub fits : GoalFitsIn raw item a
+  pub written : IsWritten a.parts
+
+-- the goal is one of these; or it is about an associated type, and is what one of these reads as, or fits
+abbrev pub IsRootOf : RawFacts → GenericDefId → System → List Asked → Goal → Type 0
+IsRootOf raw item f xs g = IsOneOf xs (asked_goal g)
+    ⊎ ((IsAboutTrait g → ⊥) × (IsReadOf f raw.limits.goal_depth xs (asked_goal g) ⊎ IsRightIn raw item (asked_goal g)))
+
+-- each proof is asked for by another, or its goal is such a root
+pub record AreRootsOf (raw : RawFacts) (item : GenericDefId) (f : System) (xs : List Asked) (ps : List Proof) : Type 0 where
+  pub each : (k : ℕ) (x : Proof) → slice_get ps k ≡ Some x → IsChild ps k ⊎ IsRootOf raw item f xs x.goal
 
 -- so it is of the last where it was of the first, if these are among the goals
-pub record AddsRootsOf (ys : List Asked) (ps qs : List Proof) : Type 0 where
-  pub later : (xs : List Asked) → ((a : Asked) → IsOneOf ys a → IsOneOf xs a) → AreRootsOf xs ps → AreRootsOf xs qs
+pub record AddsRootsOf (raw : RawFacts) (item : GenericDefId) (f : System) (ys : List Asked) (ps qs : List Proof) : Type 0 where
+  pub later : (xs : List Asked) → ((a : Asked) → IsOneOf ys a → IsOneOf xs a) → AreRootsOf raw item f xs ps → AreRootsOf raw item f xs qs
 
 -- each proof of such a goal that the table lists is asked for by another, or a node needs its goal
 abbrev pub RootsAreNeeded : Given → InferenceResult → Type 0
-RootsAreNeeded g r = (k : ℕ) (x : Proof) → slice_get r.proofs k ≡ Some x → IsAboutTrait x.goal → IsChild r.proofs k ⊎ ((n : ExprOrPatId) × IsNeeded g r n (asked_goal x.goal))
+RootsAreNeeded g r = (k : ℕ) (x : Proof) → slice_get r.proofs k ≡ Some x → IsAboutTrait x.goal → IsChild r.proofs k
+    ⊎ ((n : ExprOrPatId) × IsNeeded g r n (asked_goal x.goal))
 
 abbrev pub WasTold : List (Goal × Answer) → Asked → Type 0
 WasTold ts a = (i : ℕ) × (t : Goal × Answer) × (slice_get ts i ≡ Some t) × (asked_goal t.0 ≡ a)
@@ -87,7 +103,8 @@ at_exit (inr (inl p)) = Some p.0
 at_exit (inr (inr x)) = absurd x
 
 -- the inspector, where there is one, is the one that was lent, and was told so
-abbrev pub IsToldAll : {I : Type 0} → (I → List (Goal × Answer)) → DefWithBodyId → Given → InferenceResult → Option (MutBor I) → Option (MutBor I) → Type 0
+abbrev pub IsToldAll : {I : Type 0} → (I → List (Goal × Answer)) → DefWithBodyId → Given → InferenceResult → Option (MutBor I)
+    → Option (MutBor I) → Type 0
 IsToldAll list d g r None after = after ≡ None
 IsToldAll list d g r (Some i) None = ⊥
 IsToldAll list d g r (Some i) (Some j) = (j.ghost_name ≡ i.ghost_name) × HearsAll d g r (list i.now) (list j.now)

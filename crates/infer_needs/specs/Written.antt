@@ -1,5 +1,5 @@
--- Associated types that a definition, its `let`s and the goals of its nodes are written with: each is listed with what it reads as, at what its
--- arguments read as.
+-- Associated types that a definition, its `let`s and the goals of its nodes are written with: each is listed with what it reads as, at what
+-- its arguments read as.
 use Rattle.std.specs.Prelude.{◌≡◌, ◌⊎◌, ℕ, List, slice_get, Option, Some}
 use Rattle.infer_needs.specs.Words.{DefWithBodyId, GenericDefId, TypeAliasId, GenericArg, Ty, Term, hole, leaf, pair, term, RawBody, RawExpr, RawFacts, RawType, let_aliases, lowered, Asked, System, alias_at, IsWrittenHead, InferenceResult, needs_of, pat_needs_of, HoldsPlaceholder, aliases_of, recorded, args_term, IsListedOnceRead, WrittenAreListed, AboutIsListed}
 use Rattle.infer_needs.specs.FitTerms.{FitsIn, GoalsFitIn}
@@ -21,7 +21,8 @@ ListedAt f n k w js = (xs : List GenericArg) → args_term xs ≡ w → (HoldsPl
 
 -- the one that the two make, if they do
 abbrev pub ListedHere : System → ℕ → Term → Term → List (Ty × Ty) → Type 0
-ListedHere f n a b js = (k : TypeAliasId) (xs : List GenericArg) → alias_at k (args_term xs) ≡ pair a b → (HoldsPlaceholder (args_term xs) → ⊥) → IsListedOnceRead f n js k xs
+ListedHere f n a b js = (k : TypeAliasId) (xs : List GenericArg) → alias_at k (args_term xs) ≡ pair a b
+    → (HoldsPlaceholder (args_term xs) → ⊥) → IsListedOnceRead f n js k xs
 
 -- each that is written in the type of this number
 abbrev pub TypeIsListed : System → ℕ → List RawType → ℕ → List (Ty × Ty) → Type 0
@@ -41,11 +42,13 @@ GoalsAreListed f n xs js = (i : ℕ) (a : Asked) → slice_get xs i ≡ Some a �
 
 -- each in what the expressions of the body need
 abbrev pub ExprsAreListed : RawFacts → System → RawBody → InferenceResult → List (Ty × Ty) → Type 0
-ExprsAreListed raw f b r js = (i : ℕ) (x : RawExpr) → slice_get b.exprs i ≡ Some x → GoalsAreListed f raw.limits.goal_depth (needs_of raw (Some x) (recorded r.type_of_expr i)) js
+ExprsAreListed raw f b r js = (i : ℕ) (x : RawExpr) → slice_get b.exprs i ≡ Some x
+    → GoalsAreListed f raw.limits.goal_depth (needs_of raw (Some x) (recorded r.type_of_expr i)) js
 
 -- and in what patterns need of which these are the items
 abbrev pub ItemsAreListed : RawFacts → System → List (Option Ty) → List (Ty × Ty) → Type 0
-ItemsAreListed raw f ts js = (i : ℕ) (o : Option Ty) → slice_get ts i ≡ Some o → GoalsAreListed f raw.limits.goal_depth (pat_needs_of raw o) js
+ItemsAreListed raw f ts js = (i : ℕ) (o : Option Ty) → slice_get ts i ≡ Some o
+    → GoalsAreListed f raw.limits.goal_depth (pat_needs_of raw o) js
 
 -- what each of these patterns needs can be proved
 abbrev pub CanItemsBeProved : RawFacts → List (Option Ty) → Type 0
@@ -60,7 +63,8 @@ TypesFitIn raw item ks = (i k : ℕ) → slice_get ks i ≡ Some k → TypeFitsI
 
 -- so does what the expressions of the body need
 abbrev pub ExprsFitIn : RawFacts → GenericDefId → RawBody → InferenceResult → Type 0
-ExprsFitIn raw item b r = (i : ℕ) (x : RawExpr) → slice_get b.exprs i ≡ Some x → GoalsFitIn raw item (needs_of raw (Some x) (recorded r.type_of_expr i))
+ExprsFitIn raw item b r = (i : ℕ) (x : RawExpr) → slice_get b.exprs i ≡ Some x
+    → GoalsFitIn raw item (needs_of raw (Some x) (recorded r.type_of_expr i))
 
 -- and what patterns need of which these are the items
 abbrev pub ItemsFitIn : RawFacts → GenericDefId → List (Option Ty) → Type 0
@@ -74,7 +78,8 @@ pub record AllFitIn (raw : RawFacts) (item : GenericDefId) (d : DefWithBodyId) (
   pub pats : ItemsFitIn raw item r.item_of_pat
 
 -- each in all of these
-pub record AreAllListed (raw : RawFacts) (d : DefWithBodyId) (b : RawBody) (r : InferenceResult) (f : System) (js : List (Ty × Ty)) : Type 0 where
+pub record AreAllListed (raw : RawFacts) (d : DefWithBodyId) (b : RawBody) (r : InferenceResult) (f : System)
+    (js : List (Ty × Ty)) : Type 0 where
   pub own : TypesAreListed f raw.limits.goal_depth raw.types (aliases_of raw d) js
   pub lets : TypesAreListed f raw.limits.goal_depth raw.types (let_aliases raw.types b) js
   pub exprs : ExprsAreListed raw f b r js

@@ -2,7 +2,7 @@
 ghost use Rattle.std.specs.Prelude.{◌≡◌, ◌++◌, ◌∷◌, [], None, OnOk, option_map};
 ghost use Rattle.infer_needs.specs.Own.{FindsIn, AreDistinct};
 
-use infer_goals::hir_facts::Ty;
+use hir_facts::Ty;
 use std::alloc::{AllocError, Global};
 use std::collections::HashMap;
 use std::marker::Model;

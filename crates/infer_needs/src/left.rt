@@ -5,11 +5,11 @@ ghost use Rattle.infer_needs.specs.Own.{TakesThese, MayFollow, WereRead, Lists, 
 
 use crate::found::Found;
 use crate::unknown::holds_unknown;
+use goal_facts::{ItemSources, Proof};
 use goal_prove::prove_goal;
+use goal_terms::{Term, args_term, staying_term, term_args, type_term};
+use hir_facts::{Goal, Ty, TypeAliasId};
 use hir_types::Head;
-use infer_goals::goal_facts::{ItemSources, Proof};
-use infer_goals::goal_terms::{Term, args_term, staying_term, term_args, type_term};
-use infer_goals::hir_facts::{Goal, Ty, TypeAliasId};
 use infer_result::{InferenceDiagnostic, InferenceResult, TypeMismatch};
 use std::alloc::{AllocError, Global};
 

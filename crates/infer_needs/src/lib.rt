@@ -7,6 +7,7 @@ mod note;
 mod opened;
 mod prove;
 mod read;
+mod readable;
 mod say;
 mod tell;
 mod unknown;

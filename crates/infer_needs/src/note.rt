@@ -1,16 +1,16 @@
 //! What associated types are by goals that have a proof.
 ghost use Rattle.std.specs.Prelude.{◌↔◌, IsTrue, IfOk, OnOk, ◌≡◌};
-ghost use Rattle.infer_needs.specs.Words.{term, answers, system, asked_goal, IsAboutAlias, stays_at};
+ghost use Rattle.infer_needs.specs.Words.{term, answers, system, asked_goal, IsAboutAlias, stays_at, GoalReads};
 ghost use Rattle.infer_needs.specs.Own.{IsProvable, HasProofOf, IsListedNow, Notes, AddsProofOf};
 
 use crate::found::Found;
 use crate::read::read_goal;
 use crate::say::say;
 use crate::unknown::holds_unknown;
+use goal_facts::{ItemSources, Proof, asked, is_same};
 use goal_prove::prove_goal;
-use infer_goals::goal_facts::{ItemSources, Proof, asked, is_same};
-use infer_goals::goal_terms::{args_term, staying_term, type_term};
-use infer_goals::hir_facts::{ExprOrPatId, GenericArg, Goal, List, Ty, TypeAliasId};
+use goal_terms::{args_term, staying_term, type_term};
+use hir_facts::{ExprOrPatId, GenericArg, Goal, List, Ty, TypeAliasId};
 use infer_result::Gap;
 use std::alloc::{AllocError, Global};
 
@@ -93,7 +93,9 @@ fn prove_read(
     requires provable { IsProvable (asked_goal read.now) }
     requires yes { (answers (system sources.now.sources) sources.now.facts.limits.goal_depth).Yes (asked_goal read.now) }
     requires has { HasProofOf proofs.old.items (asked_goal goal.now) }
-    ensures { OnOk result (AddsProofOf sources.now.facts (system sources.now.sources) (asked_goal read.now) proofs.old.items proofs.new.items) }
+    requires reads { GoalReads (system sources.now.sources) sources.now.facts.limits.goal_depth (asked_goal goal.now) (asked_goal read.now) }
+    requires about { IsAboutAlias (asked_goal read.now) }
+    ensures { OnOk result (AddsProofOf sources.now.facts sources.now.item (system sources.now.sources) (asked_goal goal.now) (asked_goal read.now) proofs.old.items proofs.new.items) }
 {
     let asks = asked(alloc, goal)?;
     let reads = asked(alloc, read)?;
@@ -118,7 +120,7 @@ fn note_read(
     requires provable { IsProvable (asked_goal goal.now) }
     requires yes { (answers (system sources.now.sources) sources.now.facts.limits.goal_depth).Yes (asked_goal goal.now) }
     requires has { HasProofOf proofs.old.items (asked_goal goal.now) }
-    ensures { OnOk result (Notes sources.now.facts (system sources.now.sources) node (asked_goal goal.now) proofs.old.items proofs.new.items found.old found.new gaps.old gaps.new) }
+    ensures { OnOk result (Notes sources.now.facts sources.now.item (system sources.now.sources) node (asked_goal goal.now) proofs.old.items proofs.new.items found.old found.new gaps.old gaps.new) }
 {
     let Some(read) = read_goal(alloc, sources, goal)? else {
         return Ok(());
@@ -149,7 +151,7 @@ pub fn note(
     requires provable { IsProvable (asked_goal goal.now) }
     requires yes { (answers (system sources.now.sources) sources.now.facts.limits.goal_depth).Yes (asked_goal goal.now) }
     requires has { HasProofOf proofs.old.items (asked_goal goal.now) }
-    ensures { OnOk result (Notes sources.now.facts (system sources.now.sources) node (asked_goal goal.now) proofs.old.items proofs.new.items found.old found.new gaps.old gaps.new) }
+    ensures { OnOk result (Notes sources.now.facts sources.now.item (system sources.now.sources) node (asked_goal goal.now) proofs.old.items proofs.new.items found.old found.new gaps.old gaps.new) }
 {
     match goal {
         Goal::Trait(_trait_ref) => Ok(()),

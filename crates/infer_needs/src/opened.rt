@@ -1,15 +1,16 @@
 //! Goals in which `{unknown}` stands: whether they could hold with other types in its place.
 ghost use Rattle.std.specs.Prelude.{◌≡◌, IfOk};
-ghost use Rattle.infer_needs.specs.Words.{leaf, term_of, system, asked_goal, IsAnswer, hole_by, hole_for, opened_goal};
+ghost use Rattle.infer_needs.specs.Words.{leaf, term_of, scope_of, system, asked_goal, IsAnswer, hole_by, hole_for, opened_goal};
 ghost use Rattle.infer_result.specs.CannotHold.{opened};
 ghost use Rattle.infer_needs.specs.Own.{MayHoldIf};
 
+use crate::readable::is_readable;
 use crate::unknown::holds_unknown;
+use goal_facts::{Answer, ItemSources, asked};
+use goal_search::{Asked, Holes};
+use goal_terms::Term;
+use hir_facts::{DefWithBodyId, Goal};
 use hir_types::{Head, Hole};
-use infer_goals::goal_facts::{Answer, ItemSources, asked};
-use infer_goals::goal_search::{Asked, Holes};
-use infer_goals::goal_terms::Term;
-use infer_goals::hir_facts::Goal;
 use std::alloc::{AllocError, Global};
 
 /// The hole of this number for a type or const with the head, where that is `{unknown}`.
@@ -88,11 +89,20 @@ fn answer_opened(
     search.evaluate(&opened, Holes::Stay, depth + 1)
 }
 
-/// Whether `{unknown}` stands in a goal, and it isn't known that no type in its place makes it hold.
-pub fn may_hold(alloc: Global, sources: &ItemSources<'_>, goal: &Goal) -> Result<bool, AllocError>
-    ensures { IfOk result (λ yes. MayHoldIf (system sources.now.sources) sources.now.facts.limits.goal_depth (asked_goal goal.now) yes) }
+/// Whether `{unknown}` stands in a goal, it isn't known that no type in its place makes it hold, and what stands
+/// there could not have been read.
+pub fn may_hold(
+    alloc: Global,
+    sources: &ItemSources<'_>,
+    def: DefWithBodyId,
+    goal: &Goal,
+) -> Result<bool, AllocError>
+    ensures { IfOk result (λ yes. MayHoldIf (scope_of sources.now.facts def) (system sources.now.sources) sources.now.facts.limits.goal_depth (asked_goal goal.now) yes) }
 {
     if !holds_unknown(alloc, goal)? {
+        return Ok(false);
+    }
+    if is_readable(alloc, sources, def, goal)? {
         return Ok(false);
     }
     match answer_opened(alloc, sources, goal)? {

@@ -2,8 +2,8 @@
 //! left are looked at once more.
 ghost use Rattle.std.specs.Prelude.{◌≡◌, ◌++◌, [], ◌∷◌, length, map, Some, IfOk, OnOk};
 ghost use Rattle.hir_types.specs.declared.ids.ExprOrPatId.TheVariants as node;
-ghost use Rattle.infer_needs.specs.Words.{RawBody, body_of, system, asked_goal, IsAnswer, with_goals, scope_item, GoalsHold, HasNoneLeft, needs_of, pat_needs_at, AllWrittenAreListed, AllTypes, recorded, IsTableOf, given};
-ghost use Rattle.infer_needs.specs.Own.{IsFinalType, EntriesFit, AreAllListed, AllFitIn, IsProvable, AreProvable, CanAllBeProved, CanPatsBeProved, FitOrAreSaid, IsSaidUnlessMay, IsJudged, AreJudged, AreAllJudged, ArePatsJudged, ListsAnswers, first_needs, first_pat_needs, AreAllAnswered, AddsRootsOf, RootsAreNeeded};
+ghost use Rattle.infer_needs.specs.Words.{RawBody, body_of, system, asked_goal, IsAnswer, with_goals, scope_item, GoalsHold, HasNoneLeft, needs_of, pat_needs_at, AllWrittenAreListed, AllTypes, recorded, IsTableOf, given, scope_of};
+ghost use Rattle.infer_needs.specs.Own.{IsFinalType, EntriesFit, AreAllListed, AllFitIn, IsProvable, AreProvable, CanAllBeProved, CanPatsBeProved, FitOrAreSaid, IsSaidUnlessMay, IsJudged, AreJudged, AreAllJudged, ArePatsJudged, ListsAnswers, first_needs, first_pat_needs, AreAllAnswered, AddsRootsOf, RootsAreNeeded, ProofsFit};
 
 use crate::found::Found;
 use crate::left::look_at_table;
@@ -11,9 +11,9 @@ use crate::note::note;
 use crate::opened::may_hold;
 use crate::say::say;
 use crate::written::look_at_written;
+use goal_facts::{Answer, ItemSources, Proof};
 use goal_prove::prove_goal;
-use infer_goals::goal_facts::{Answer, ItemSources, Proof};
-use infer_goals::hir_facts::{
+use hir_facts::{
     AdtId, DefWithBodyId, ExprOrPatId, Facts, GenericDefId, Goal, List, RawBody, RawExpr,
 };
 use infer_result::{Gap, InferenceResult, expr_id, needed_goals, pat_id, pat_needs};
@@ -51,17 +51,18 @@ fn evaluate(
 }
 
 /// Says of a goal whose answer isn't Yes that it has no proof, once, unless it may hold with other types in
-/// the place of `{unknown}`.
+/// the place of `{unknown}`, which could not have been read.
 fn complain(
     alloc: Global,
     sources: &ItemSources<'_>,
+    def: DefWithBodyId,
     goal: Goal,
     node: ExprOrPatId,
     gaps: &mut List<Gap>,
 ) -> Result<(), AllocError>
-    ensures { OnOk result (IsSaidUnlessMay (system sources.now.sources) sources.now.facts.limits.goal_depth node goal gaps.old gaps.new) }
+    ensures { OnOk result (IsSaidUnlessMay (scope_of sources.now.facts def) (system sources.now.sources) sources.now.facts.limits.goal_depth node goal gaps.old gaps.new) }
 {
-    if may_hold(alloc, sources, &goal)? {
+    if may_hold(alloc, sources, def, &goal)? {
         return Ok(());
     }
     say(alloc, Gap::Unproved { node, goal }, gaps)
@@ -73,6 +74,7 @@ fn complain(
 fn prove_need(
     alloc: Global,
     sources: &ItemSources<'_>,
+    def: DefWithBodyId,
     goal: Goal,
     node: ExprOrPatId,
     told: &mut Vec<(Goal, Answer)>,
@@ -81,9 +83,9 @@ fn prove_need(
     gaps: &mut List<Gap>,
 ) -> Result<(), AllocError>
     requires { IsProvable (asked_goal goal) }
-    ensures judged { OnOk result (IsJudged sources.now.facts (system sources.now.sources) node goal proofs.old.items proofs.new.items found.old found.new gaps.old gaps.new) }
+    ensures judged { OnOk result (IsJudged sources.now.facts (scope_of sources.now.facts def) (system sources.now.sources) node goal proofs.old.items proofs.new.items found.old found.new gaps.old gaps.new) }
     ensures told { OnOk result (ListsAnswers (system sources.now.sources) sources.now.facts.limits.goal_depth (asked_goal goal ∷ []) told.old.items told.new.items) }
-    ensures roots { OnOk result (AddsRootsOf (asked_goal goal ∷ []) proofs.old.items proofs.new.items) }
+    ensures roots { OnOk result (AddsRootsOf sources.now.facts sources.now.item (system sources.now.sources) (asked_goal goal ∷ []) proofs.old.items proofs.new.items) }
 {
     match evaluate(alloc, sources, &goal, told)? {
         Answer::Yes => {
@@ -93,7 +95,7 @@ fn prove_need(
             Ok(())
         }
         Answer::No | Answer::Undecided => {
-            complain(alloc, sources, goal, node, gaps)?;
+            complain(alloc, sources, def, goal, node, gaps)?;
             Ok(())
         }
     }
@@ -103,6 +105,7 @@ fn prove_need(
 fn prove_each(
     alloc: Global,
     sources: &ItemSources<'_>,
+    def: DefWithBodyId,
     needed: Vec<Goal>,
     node: ExprOrPatId,
     told: &mut Vec<(Goal, Answer)>,
@@ -110,13 +113,15 @@ fn prove_each(
     found: &mut Found,
 ) -> Result<List<Gap>, AllocError>
     requires { AreProvable (map asked_goal needed.items) }
-    ensures judged { IfOk result (λ gaps. AreJudged sources.now.facts (system sources.now.sources) node (map asked_goal needed.items) proofs.old.items proofs.new.items found.old found.new gaps) }
+    ensures judged { IfOk result (λ gaps. AreJudged sources.now.facts (scope_of sources.now.facts def) (system sources.now.sources) node (map asked_goal needed.items) proofs.old.items proofs.new.items found.old found.new gaps) }
     ensures told { OnOk result (ListsAnswers (system sources.now.sources) sources.now.facts.limits.goal_depth (map asked_goal needed.items) told.old.items told.new.items) }
-    ensures roots { OnOk result (AddsRootsOf (map asked_goal needed.items) proofs.old.items proofs.new.items) }
+    ensures roots { OnOk result (AddsRootsOf sources.now.facts sources.now.item (system sources.now.sources) (map asked_goal needed.items) proofs.old.items proofs.new.items) }
 {
     let mut gaps = List::new(alloc);
     for goal in needed {
-        prove_need(alloc, sources, goal, node, told, proofs, found, &mut gaps)?;
+        prove_need(
+            alloc, sources, def, goal, node, told, proofs, found, &mut gaps,
+        )?;
     }
     Ok(gaps)
 }
@@ -125,6 +130,7 @@ fn prove_each(
 fn prove_at(
     alloc: Global,
     sources: &ItemSources<'_>,
+    def: DefWithBodyId,
     expr: &RawExpr,
     at: usize,
     table: &InferenceResult,
@@ -133,15 +139,15 @@ fn prove_at(
     found: &mut Found,
 ) -> Result<List<Gap>, AllocError>
     requires { AreProvable (needs_of sources.now.facts (Some expr.now) (recorded table.now.type_of_expr at)) }
-    ensures judged { IfOk result (λ gaps. AreJudged sources.now.facts (system sources.now.sources) (node.ExprId (record { 0 = at })) (needs_of sources.now.facts (Some expr.now) (recorded table.now.type_of_expr at)) proofs.old.items proofs.new.items found.old found.new gaps) }
+    ensures judged { IfOk result (λ gaps. AreJudged sources.now.facts (scope_of sources.now.facts def) (system sources.now.sources) (node.ExprId (record { 0 = at })) (needs_of sources.now.facts (Some expr.now) (recorded table.now.type_of_expr at)) proofs.old.items proofs.new.items found.old found.new gaps) }
     ensures told { OnOk result (ListsAnswers (system sources.now.sources) sources.now.facts.limits.goal_depth (needs_of sources.now.facts (Some expr.now) (recorded table.now.type_of_expr at)) told.old.items told.new.items) }
-    ensures roots { OnOk result (AddsRootsOf (needs_of sources.now.facts (Some expr.now) (recorded table.now.type_of_expr at)) proofs.old.items proofs.new.items) }
+    ensures roots { OnOk result (AddsRootsOf sources.now.facts sources.now.item (system sources.now.sources) (needs_of sources.now.facts (Some expr.now) (recorded table.now.type_of_expr at)) proofs.old.items proofs.new.items) }
 {
     let node = ExprOrPatId::ExprId(expr_id(at)?);
     match table.type_of_expr_or_pat(node) {
         Some(ty) => {
             let needed = needed_goals(alloc, sources.facts(), expr, ty)?;
-            let gaps = prove_each(alloc, sources, needed, node, told, proofs, found)?;
+            let gaps = prove_each(alloc, sources, def, needed, node, told, proofs, found)?;
             Ok(gaps)
         }
         None => Ok(List::new(alloc)),
@@ -152,6 +158,7 @@ fn prove_at(
 fn prove_pat(
     alloc: Global,
     sources: &ItemSources<'_>,
+    def: DefWithBodyId,
     at: usize,
     table: &InferenceResult,
     told: &mut Vec<(Goal, Answer)>,
@@ -159,16 +166,16 @@ fn prove_pat(
     found: &mut Found,
 ) -> Result<List<Gap>, AllocError>
     requires { AreProvable (pat_needs_at sources.now.facts table.now at) }
-    ensures judged { IfOk result (λ gaps. AreJudged sources.now.facts (system sources.now.sources) (node.PatId (record { 0 = at })) (pat_needs_at sources.now.facts table.now at) proofs.old.items proofs.new.items found.old found.new gaps) }
+    ensures judged { IfOk result (λ gaps. AreJudged sources.now.facts (scope_of sources.now.facts def) (system sources.now.sources) (node.PatId (record { 0 = at })) (pat_needs_at sources.now.facts table.now at) proofs.old.items proofs.new.items found.old found.new gaps) }
     ensures told { OnOk result (ListsAnswers (system sources.now.sources) sources.now.facts.limits.goal_depth (pat_needs_at sources.now.facts table.now at) told.old.items told.new.items) }
-    ensures roots { OnOk result (AddsRootsOf (pat_needs_at sources.now.facts table.now at) proofs.old.items proofs.new.items) }
+    ensures roots { OnOk result (AddsRootsOf sources.now.facts sources.now.item (system sources.now.sources) (pat_needs_at sources.now.facts table.now at) proofs.old.items proofs.new.items) }
 {
     let pat = pat_id(at)?;
     match table.item_of_pat(pat) {
         Some(item) => {
             let needed = pat_needs(alloc, sources.facts(), item)?;
             let node = ExprOrPatId::PatId(pat);
-            let gaps = prove_each(alloc, sources, needed, node, told, proofs, found)?;
+            let gaps = prove_each(alloc, sources, def, needed, node, told, proofs, found)?;
             Ok(gaps)
         }
         None => Ok(List::new(alloc)),
@@ -179,6 +186,7 @@ fn prove_pat(
 fn prove_pats(
     alloc: Global,
     sources: &ItemSources<'_>,
+    def: DefWithBodyId,
     body: &RawBody,
     table: &InferenceResult,
     told: &mut Vec<(Goal, Answer)>,
@@ -186,13 +194,13 @@ fn prove_pats(
     found: &mut Found,
 ) -> Result<List<List<Gap>>, AllocError>
     requires { CanPatsBeProved sources.now.facts table.now }
-    ensures judged { IfOk result (λ gaps. ArePatsJudged sources.now.facts (system sources.now.sources) table.now (length body.now.pats) proofs.old.items proofs.new.items found.old found.new gaps) }
+    ensures judged { IfOk result (λ gaps. ArePatsJudged sources.now.facts (scope_of sources.now.facts def) (system sources.now.sources) table.now (length body.now.pats) proofs.old.items proofs.new.items found.old found.new gaps) }
     ensures told { OnOk result (ListsAnswers (system sources.now.sources) sources.now.facts.limits.goal_depth (first_pat_needs sources.now.facts table.now (length body.now.pats)) told.old.items told.new.items) }
-    ensures roots { OnOk result (AddsRootsOf (first_pat_needs sources.now.facts table.now (length body.now.pats)) proofs.old.items proofs.new.items) }
+    ensures roots { OnOk result (AddsRootsOf sources.now.facts sources.now.item (system sources.now.sources) (first_pat_needs sources.now.facts table.now (length body.now.pats)) proofs.old.items proofs.new.items) }
 {
     let mut gaps = List::new(alloc);
     for at in 0..body.pats.len() {
-        let here = prove_pat(alloc, sources, at, table, told, proofs, found)?;
+        let here = prove_pat(alloc, sources, def, at, table, told, proofs, found)?;
         gaps.push(here)?;
     }
     Ok(gaps)
@@ -213,11 +221,11 @@ fn prove_exprs(
     requires pats { CanPatsBeProved sources.now.facts table.now }
     requires types { AllTypes (IsFinalType sources.now.facts sources.now.item) table.now }
     requires fits { AllFitIn sources.now.facts sources.now.item def body.now table.now }
-    ensures judged { IfOk result (λ made. AreAllJudged sources.now.facts (system sources.now.sources) body.now table.now (length body.now.exprs) made.0.items made.1 made.2) }
+    ensures judged { IfOk result (λ made. AreAllJudged sources.now.facts (scope_of sources.now.facts def) (system sources.now.sources) body.now table.now (length body.now.exprs) made.0.items made.1 made.2) }
     ensures fit { IfOk result (λ made. FitOrAreSaid sources.now.facts sources.now.item (system sources.now.sources) (first_needs sources.now.facts body.now table.now (length body.now.exprs)) made.1) }
     ensures written { IfOk result (λ made. AreAllListed sources.now.facts def body.now table.now (system sources.now.sources) made.1) }
     ensures told { OnOk result (ListsAnswers (system sources.now.sources) sources.now.facts.limits.goal_depth (first_needs sources.now.facts body.now table.now (length body.now.exprs)) told.old.items told.new.items) }
-    ensures roots { IfOk result (λ made. AddsRootsOf (first_needs sources.now.facts body.now table.now (length body.now.exprs)) [] made.0.items) }
+    ensures roots { IfOk result (λ made. AddsRootsOf sources.now.facts sources.now.item (system sources.now.sources) (first_needs sources.now.facts body.now table.now (length body.now.exprs)) [] made.0.items) }
 {
     let mut proofs = Vec::new(alloc);
     let mut found = Found::new(alloc);
@@ -228,6 +236,7 @@ fn prove_exprs(
         let here = prove_at(
             alloc,
             sources,
+            def,
             expr,
             at,
             table,
@@ -241,13 +250,13 @@ fn prove_exprs(
 }
 
 /// Proves each goal that a node of a typed body needs, at the types that are recorded, or says of it that it
-/// has no proof. Only a goal may be left without either in which `{unknown}` stands, and which may hold with
-/// other types in its place. Each goal is evaluated and told once, in the order of the expressions and of the
+/// has no proof. Only a goal may be left without either in which `{unknown}` stands, which may hold with other
+/// types in its place, and which is not about an associated type that could be read. Each goal is evaluated and told once, in the order of the expressions and of the
 /// predicates of each item, and then of the patterns: these are given back, each with its answer. What associated
 /// types were found to be is listed, each once; where one is another type at a node, this is said there. In no type
 /// of the table is one left that could be read, unless what it is is listed; and so is what each is that the
-/// definition, its `let`s and those goals are written with. What is listed, and what is said, names what the facts have,
-/// with as many arguments as it takes, and has no holes. Each listed proof of a goal about a trait is one that another
+/// definition, its `let`s and those goals are written with. What is listed, what is said, and what each proof is of and at
+/// which arguments, names what the facts have, with as many arguments as it takes, and has no holes. Each listed proof of a goal about a trait is one that another
 /// asks for, or of a goal that a node needs. Nothing else of the table changes. The one error is want of memory.
 pub fn prove_needs(
     alloc: Global,
@@ -262,6 +271,7 @@ pub fn prove_needs(
     ensures written { OnOk result ((b : RawBody) → body_of facts.now def ≡ Some b → AllWrittenAreListed def (given facts.now def b) table.new) }
     ensures roots { OnOk result ((b : RawBody) → body_of facts.now def ≡ Some b → RootsAreNeeded (given facts.now def b) table.new) }
     ensures fit { OnOk result ((b : RawBody) → body_of facts.now def ≡ Some b → EntriesFit (given facts.now def b) table.new) }
+    ensures proofs { OnOk result ((b : RawBody) → body_of facts.now def ≡ Some b → ProofsFit def (given facts.now def b) table.new) }
     ensures told { IfOk result (λ told. (b : RawBody) → body_of facts.now def ≡ Some b → AreAllAnswered def (given facts.now def b) table.new told.items) }
 {
     let Some(id) = facts.body_id(def) else {
@@ -276,6 +286,7 @@ pub fn prove_needs(
     let pat_gaps = prove_pats(
         alloc,
         &sources,
+        def,
         body,
         table,
         &mut told,

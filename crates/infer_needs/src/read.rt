@@ -3,9 +3,9 @@ ghost use Rattle.std.specs.Prelude.{IfOk};
 ghost use Rattle.infer_needs.specs.Words.{system, asked_goal, IsWritten};
 ghost use Rattle.infer_needs.specs.Own.{IsGoalRead, IsWrittenIf};
 
-use infer_goals::goal_facts::{ItemSources, asked, goal_of};
-use infer_goals::goal_search::{Asked, Holes, MOST_LEVELS};
-use infer_goals::hir_facts::Goal;
+use goal_facts::{ItemSources, asked, goal_of};
+use goal_search::{Asked, Holes, MOST_LEVELS};
+use hir_facts::Goal;
 use std::alloc::{AllocError, Global};
 
 /// What a goal without holes reads as at the depth to which the facts let goals be followed, each associated type

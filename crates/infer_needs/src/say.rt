@@ -3,8 +3,8 @@ ghost use Rattle.std.specs.Prelude.{◌≡◌, ◌↔◌, IsTrue, IfOk, OnOk};
 ghost use Rattle.infer_needs.specs.Words.{gap_says};
 ghost use Rattle.infer_needs.specs.Own.{IsAmong, IsSaidOnce};
 
-use infer_goals::goal_facts::{asked, is_same};
-use infer_goals::hir_facts::List;
+use goal_facts::{asked, is_same};
+use hir_facts::List;
 use infer_result::Gap;
 use std::alloc::{AllocError, Global};
 

@@ -1,9 +1,9 @@
 //! An inspector is told of goals and their answers.
 ghost use Rattle.std.specs.Prelude.{◌≡◌, ◌++◌, OnOk};
 
+use goal_facts::Answer;
+use hir_facts::Goal;
 use infer_goals::ObligationInspector;
-use infer_goals::goal_facts::Answer;
-use infer_goals::hir_facts::Goal;
 use std::alloc::AllocError;
 
 /// Tells of each of these goals with its answer, in their order. The one error is want of memory.

@@ -1,10 +1,10 @@
-//! Whether `{unknown}` stands in a goal.
-ghost use Rattle.std.specs.Prelude.{◌↔◌, IsTrue, IfOk};
-ghost use Rattle.infer_needs.specs.Words.{leaf, term_of, asked_goal, HoldsUnknown};
+//! Whether `{unknown}` stands in a goal, or in arguments.
+ghost use Rattle.std.specs.Prelude.{◌↔◌, IsTrue, IfOk, map};
+ghost use Rattle.infer_needs.specs.Words.{leaf, term_of, asked_goal, HoldsUnknown, arg_term, chain};
 
+use goal_terms::{Term, args_term, type_term};
+use hir_facts::{GenericArg, Goal, List};
 use hir_types::Head;
-use infer_goals::goal_terms::{Term, args_term, type_term};
-use infer_goals::hir_facts::Goal;
 use std::alloc::{AllocError, Global};
 
 fn is_unknown(head: Head) -> bool
@@ -28,7 +28,15 @@ fn stands_in(term: &Term) -> bool
     }
 }
 
-/// Whether `{unknown}`, as a type or a const, stands in a goal.
+/// Whether `{unknown}`, as a type or a const, stands in one of these arguments.
+pub fn args_hold_unknown(alloc: Global, args: &List<GenericArg>) -> Result<bool, AllocError>
+    ensures { IfOk result (λ yes. IsTrue yes ↔ HoldsUnknown (chain (map arg_term args.now))) }
+{
+    let args = args_term(alloc, args)?;
+    Ok(stands_in(&args))
+}
+
+/// Whether it stands in a goal.
 pub fn holds_unknown(alloc: Global, goal: &Goal) -> Result<bool, AllocError>
     ensures { IfOk result (λ yes. IsTrue yes ↔ HoldsUnknown (asked_goal goal.now).parts) }
 {

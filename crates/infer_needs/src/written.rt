@@ -7,14 +7,14 @@ ghost use Rattle.infer_needs.specs.Own.{FitsIn, AliasesFitIn, AliasFitsHere, Goa
 use crate::found::Found;
 use crate::left::look_at_alias;
 use crate::unknown::holds_unknown;
-use hir_types::Head;
-use infer_goals::goal_facts::{ItemSources, Proof, asked};
-use infer_goals::goal_search::{Holes, MOST_LEVELS};
-use infer_goals::goal_terms::{Role, Term, args_term, type_term};
-use infer_goals::hir_facts::{
+use goal_facts::{ItemSources, Proof, asked};
+use goal_search::{Holes, MOST_LEVELS};
+use goal_terms::{Role, Term, args_term, type_term};
+use hir_facts::{
     DefWithBodyId, ExprOrPatId, Facts, Goal, RawBody, RawExpr, Ty, TypeAliasId, TypeRefId,
     fn_aliases, let_aliases, lower_ty,
 };
+use hir_types::Head;
 use infer_result::{InferenceResult, expr_id, needed_goals, pat_needs};
 use std::alloc::{AllocError, Global};
 

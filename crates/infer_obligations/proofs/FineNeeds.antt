@@ -225,7 +225,6 @@ module _ (g : Given) (law : IsLawful g.scope.facts) (e : ExprId) (t : Ty) (heads
 
   path_needs : (q : RawPath) → slice_get g.body.exprs e.0 ≡ Some (expr.Path q) → PathRule g r e q → ((v : VariantId) → q ≡ path.Ctor v → IsVariant raw v) → Each IsInScope (map (goal_at raw (args_of t)) (path_preds raw q))
   path_needs (path.Local v) is rule variant = tt
-  path_needs path.Other is rule variant = tt
   path_needs (path.Function f) is rule variant = fn_needs f is rule (slice_get raw.fns f.0) refl
   path_needs (path.Ctor v) is rule variant = ctor_needs v is rule (variant v refl) (slice_get raw.variants v.0) refl
 

@@ -15,6 +15,8 @@ use Rattle.infer_obligations.specs.Words.hir_raw.declared.raw.RawGoal.TheVariant
 use Rattle.infer_obligations.specs.Words.hir_raw.declared.raw.RawType.TheVariants as type
 use Rattle.infer_obligations.specs.Words.hir_facts.Projections.{in_part}
 use Rattle.infer_obligations.specs.Words.goal_facts.Environment.{Follows}
+use Rattle.goal_facts.proofs.Saying.{said_is}
+use Rattle.goal_facts.specs.Own.{said_trait}
 use Rattle.infer_obligations.proofs.Words.{each_append, each_get, listed_not_concrete, parts_by, layer, layer_is, args_are, concrete_within, every_at, heads_bool, heads_char, heads_integer, heads_param, heads_tuple, heads_adt, heads_fn_def, found, over_fine, written_heads}
 
 -- ---- lists
@@ -300,19 +302,19 @@ module _ (raw : RawFacts) (law : IsLawful raw) where
   in_impls y h = behind_bounds y (in_last impl_preds_use impls_use y h)
 
   adts_fit : AllHold (λ i a. AdtFits raw a) raw.adts
-  adts_fit = law.all.1.1.1.1.1.1.1.1.1.1.1.1.1.1.1.1.1.1.1.1.1.1.0
+  adts_fit = law.all.1.1.1.1.1.1.1.1.1.1.1.1.1.1.1.1.1.1.1.1.1.0
 
   traits_fit : AllHold (λ i t. TraitFits raw t) raw.traits
-  traits_fit = law.all.1.1.1.1.1.1.1.1.1.1.1.1.1.1.1.1.1.1.1.1.1.1.1.1.1.0
+  traits_fit = law.all.1.1.1.1.1.1.1.1.1.1.1.1.1.1.1.1.1.1.1.1.1.1.1.1.0
 
   impls_fit : AllHold (λ i p. ImplFits raw p) raw.impls
-  impls_fit = law.all.1.1.1.1.1.1.1.1.1.1.1.1.1.1.1.1.1.1.1.1.1.1.1.1.1.1.1.0
+  impls_fit = law.all.1.1.1.1.1.1.1.1.1.1.1.1.1.1.1.1.1.1.1.1.1.1.1.1.1.1.0
 
   traits_exist : AllHold (TraitIdsExist raw) raw.traits
-  traits_exist = law.all.1.1.1.1.1.1.1.1.1.1.1.1.1.1.1.1.1.0
+  traits_exist = law.all.1.1.1.1.1.1.1.1.1.1.1.1.1.1.1.1.0
 
   impls_exist : AllHold (λ i p. ImplIdsExist raw p) raw.impls
-  impls_exist = law.all.1.1.1.1.1.1.1.1.1.1.1.1.1.1.1.1.1.1.1.0
+  impls_exist = law.all.1.1.1.1.1.1.1.1.1.1.1.1.1.1.1.1.1.1.0
 
   adts_exist : (a : ℕ) (x : RawAdt) → slice_get raw.adts a ≡ Some x → GoalsExist raw x.preds
   adts_exist a x at = (adt_ids raw law a x at).preds
@@ -465,13 +467,13 @@ module _ (raw : RawFacts) (law : IsLawful raw) where
     fact_fine : (d : Asked) → IsFineGoal d → IsFineRule (fact d)
     fact_fine d h = λ is c. (goal_key d h is c, tt)
 
-    impl_fine : (i : ℕ) (p : RawImpl) → slice_get raw.impls i ≡ Some p → (o : Option RawTraitRef) → p.trait_ ≡ o → Each IsFineRule (rules_for raw p o)
+    impl_fine : (i : ℕ) (p : RawImpl) → slice_get raw.impls i ≡ Some p → (o : Option RawTraitRef) → ((r : RawTraitRef) → o ≡ Some r → p.trait_ ≡ Some r) → Each IsFineRule (rules_for raw p o)
     impl_fine i p here None is = tt
     impl_fine i p here (Some r) is = (
       λ kind concrete. (
         args_made Q (impl_args raw p r) (subst (λ xs. AreFineArgs Q (args_at raw xs (p.self_ ∷ arg_types r.args))) (holes_are (length p.params))
             (args_fine sc same (hole_types (length p.params)) (hole_heads sc (length p.params)) (p.self_ ∷ arg_types r.args)
-            (subst (λ n. AreFit n (p.self_ ∷ arg_types r.args)) (sym (holes_long (length p.params))) (impl_args_fit i p r here is)))) concrete,
+            (subst (λ n. AreFit n (p.self_ ∷ arg_types r.args)) (sym (holes_long (length p.params))) (impl_args_fit i p r here (is r refl))))) concrete,
         each_mapped (HasHeadsIfConcrete Q) (goal_at raw (impl_holes p)) p.preds (λ k g at. goal_key (goal_at raw (impl_holes p) g) (at_holes (length p.params) g (impl_preds_fit i p here k g at))),
       ),
       each_mapped IsFineRule (assoc_rule raw p r) p.types (λ k x at kind concrete. absurd kind),
@@ -482,7 +484,7 @@ module _ (raw : RawFacts) (law : IsLawful raw) where
         let rules = are.rules in
         subst (Each IsFineRule) (sym rules.are)
         (each_append IsFineRule (flat_map (impl_rules raw) raw.impls) (map fact rules.listed)
-        (each_flat IsFineRule (impl_rules raw) raw.impls (λ i p at. impl_fine i p at p.trait_ refl))
+        (each_flat IsFineRule (impl_rules raw) raw.impls (λ i p at. impl_fine i p at (said_trait raw p.trait_) (said_is raw p.trait_)))
         (each_mapped IsFineRule fact rules.listed (λ i d at is c. absurd (listed_not_concrete raw raw.limits.goal_depth d (rules.closed.only i d at) is c))))
 
   -- ---- the sources of a function

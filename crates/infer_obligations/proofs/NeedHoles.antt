@@ -117,7 +117,6 @@ module _ (kinds : List HoleKind) where
     path_made (path.Function f) = fn_made (slice_get raw.fns f.0)
     path_made (path.Local v) = tt
     path_made (path.Ctor v) = variant_made (slice_get raw.variants v.0)
-    path_made path.Other = tt
 
     expr_made : (x : RawExpr) → Each (λ (a : Asked). Made a.parts) (alias_goals raw xs x)
     expr_made (expr.Path p) = path_made p

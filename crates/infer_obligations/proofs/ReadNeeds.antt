@@ -1,6 +1,6 @@
 -- What was read of the associated types that goals are about, one after another.
-use Rattle.std.specs.Prelude.{◌≡◌, ◌<◌, ◌≤◌, ◌+◌, ℕ, suc, List, [], length, slice_get, Option, Some, None}
-use Rattle.std.proofs.Common.{refl, sym, ap, subst, inl, inr, ◌∙◌, arith}
+use Rattle.std.specs.Prelude.{◌≡◌, ◌<◌, ◌≤◌, ◌+◌, ℕ, suc, List, [], length, slice_get, Option, Some, None, ◌-◌, ◌^◌}
+use Rattle.std.proofs.Common.{refl, sym, ap, subst, ◌∙◌, arith, length-append}
 use Rattle.infer_obligations.specs.Words.{Goal, TypeAliasId, GenericArg, TraitRef, Ty, RawExpr, bindings, resolved_type, IsTypeRead, IsSystemOf, system, IsOfBody, needed_goals, needs_of, needs_at, Given, recorded, InferenceContext, IsSound, OnlyBinds, Settles}
 use Rattle.hir_types.specs.declared.goal.Goal.TheVariants as goal
 use Rattle.hir_types.specs.declared.ty.Ty.TheVariants as ty
@@ -149,30 +149,30 @@ ends_pats g n old c all so_far = (let end : n ≡ length g.body.pats = omega (ar
 
 -- ---- until nothing is bound
 
-all_binds : (g : Given) (old new : InferenceContext) → ReadsAll g old new → OnlyBinds g old new
+pub all_binds : (g : Given) (old new : InferenceContext) → ReadsAll g old new → OnlyBinds g old new
 all_binds g old new reads = binds_twice g old reads.0 new reads.1.binds reads.2.binds
 
 -- all were read so many times
-pub record TimesRead (g : Given) (n : ℕ) (old c : InferenceContext) : Type 0 where
-  pub within : n ≤ g.scope.facts.limits.goal_depth
+pub record TimesRead (g : Given) (old c : InferenceContext) : Type 0 where
   pub binds : OnlyBinds g old c
-  pub reads : ReadsTimes g n old c
+  pub times : ℕ
+  pub reads : ReadsTimes g times old c
 
-pub begins_times : (g : Given) (c : InferenceContext) → IsOfBody g.body c.result → IsSound g.scope c → TimesRead g 0 c c
-begins_times g c body sound = record { within = omega arith; binds = binds_nothing g c body sound; reads = refl }
+pub begins_times : (g : Given) (c : InferenceContext) → IsOfBody g.body c.result → IsSound g.scope c → TimesRead g c c
+begins_times g c body sound = record { binds = binds_nothing g c body sound; times = 0; reads = refl }
 
-pub once_more : (g : Given) (n limit : ℕ) (old c next : InferenceContext) → limit ≡ g.scope.facts.limits.goal_depth → n < limit → TimesRead g n old c → ReadsAll g c next → TimesRead g (n + 1) old next
-once_more g n limit old c next is more so_far reads = subst (λ m. TimesRead g m old next) (one_more n) (record {
-  within = omega (arith, is, more);
-  binds = binds_twice g old c next so_far.binds (all_binds g c next reads);
-  reads = (c, so_far.reads, reads);
-})
+pub once_more : (g : Given) (old c next : InferenceContext) → TimesRead g old c → ReadsAll g c next → TimesRead g old next
+once_more g old c next so_far reads = record { binds = binds_twice g old c next so_far.binds (all_binds g c next reads); times = suc so_far.times; reads = (c, so_far.reads, reads) }
 
-pub bound_none : (g : Given) (n : ℕ) (old c next : InferenceContext) → TimesRead g n old c → ReadsAll g c next → length (bindings next.goals.table) ≡ length (bindings c.goals.table) → ReadsOn g old next
-bound_none g n old c next so_far reads none = record { binds = binds_twice g old c next so_far.binds (all_binds g c next reads); ends = inl (record { before = c; reads = reads; none = none }) }
+pub bound_none : (g : Given) (old c next : InferenceContext) → TimesRead g old c → ReadsAll g c next → length (bindings next.goals.table) ≡ length (bindings c.goals.table) → ReadsOn g old next
+bound_none g old c next so_far reads none = record { binds = binds_twice g old c next so_far.binds (all_binds g c next reads); times = so_far.times; before = c; first = so_far.reads; again = reads; none = none }
 
-pub often_enough : (g : Given) (n limit : ℕ) (old c : InferenceContext) → limit ≡ g.scope.facts.limits.goal_depth → limit ≤ n → TimesRead g n old c → ReadsOn g old c
-often_enough g n limit old c is all so_far = (let end : n ≡ g.scope.facts.limits.goal_depth = omega (arith, is, all, so_far.within) in record { binds = so_far.binds; ends = inr (subst (λ m. ReadsTimes g m old c) end so_far.reads) })
+-- where a reading bound some hole, fewer bindings are left to be made
+pub leaves_fewer : (g : Given) (c next : InferenceContext) (n : ℕ) → OnlyBinds g c next → n ≡ length (bindings next.goals.table) → n < 2 ^ 64 → (n ≡ length (bindings c.goals.table) → ⊥) → 2 ^ 64 - length (bindings next.goals.table) < 2 ^ 64 - length (bindings c.goals.table)
+leaves_fewer g c next n binds is within other =
+    let log = binds.follows.grew.log in
+    let long : length (bindings next.goals.table) ≡ length (bindings c.goals.table) + length log.0 = ap length log.1 ∙ length-append (bindings c.goals.table) log.0 in
+    omega (arith, is, within, other, long)
 
 -- ---- once the body is walked
 
@@ -182,5 +182,12 @@ settles_needs g old mid selected new reads selects settles = record {
   reads = reads;
   selected = selected;
   selects = selects;
-  settles = record { binds = binds_twice g old selected new (binds_twice g old mid selected reads.binds selects.binds) settles.binds; decided = settles.decided };
+  settles = settles;
+}
+
+-- from before what was read on, nothing is left open that is asked
+pub all_settled : (g : Given) (old new : InferenceContext) → SettlesNeeds g old new → Settles g old new
+all_settled g old new h = record {
+  binds = binds_twice g old h.selected new (binds_twice g old h.read h.selected h.reads.binds h.selects.binds) h.settles.binds;
+  decided = h.settles.decided;
 }

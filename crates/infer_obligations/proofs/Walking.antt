@@ -59,6 +59,7 @@ module _ (g : Given) (c : InferenceContext) (body : IsOfBody g.body c.result) (s
 
   pub selects_alone : SelectsAlone g c last
   selects_alone = record {
+    of_item = given;
     binds = record {
       follows = record {
         clock = omega arith;

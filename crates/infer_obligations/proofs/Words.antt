@@ -1,7 +1,7 @@
 -- What this crate takes from those below it.
 pub use Rattle.infer_coerce.proofs.Words.infer_table
 pub use Rattle.infer_coerce.proofs.Words.goal_search
-pub use Rattle.infer_coerce.proofs.Words.{ctor_pattern, list_all_at, body_in_range, field_direct, names_none, no_aliases, no_field_aliases, none_within, own_arity, kind_direct, plain_direct, type_direct, inputs_count}
+pub use Rattle.infer_coerce.proofs.Words.{arguments_in_order, bind_has_no_parts, ctor_pattern, list_all_at, body_in_range, field_direct, names_none, no_aliases, no_field_aliases, none_within, own_arity, kind_direct, plain_direct, type_direct, asked_is_carried, carried_has_body, inputs_count}
 pub use Rattle.infer_coerce.proofs.Words.{get_from_take, closing_meets, binds_only_fallen, grew_by_hole, grew_twice, grew_itself}
 pub use Rattle.infer_coerce.proofs.Words.{SizedYesBy, read_reads}
 pub use Rattle.infer_coerce.proofs.Words.{get_in_map, args_holes, type_under, listed_not_concrete, each_append, each_get, args_are, by_layers, layer, layer_is, parts_by}

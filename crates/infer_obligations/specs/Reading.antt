@@ -1,13 +1,9 @@
 -- What an associated type that a goal is about reads as, made equal with the goal's type.
-use Rattle.std.specs.Prelude.{◌≡◌, ◌⊎◌, ℕ, zero, suc, List, length, map, slice_get, Option, Some, Bool}
-use Rattle.infer_obligations.specs.Words.{Goal, TypeAliasId, GenericArg, Scope, Ty, bindings, resolved_type, asked_goal, IsTypeRead, IsSystemOf, system, needs_at, pat_needs_at, IsInHand, Given, InferenceContext, OnlyBinds, SameOrDiffer, Settles, RawFacts}
+use Rattle.std.specs.Prelude.{◌≡◌, ℕ, zero, suc, List, length, map, slice_get, Option, Some}
+use Rattle.infer_obligations.specs.Words.{Goal, TypeAliasId, GenericArg, Ty, bindings, resolved_type, asked_goal, IsTypeRead, IsSystemOf, system, needs_at, pat_needs_at, IsInHand, Given, InferenceContext, OnlyBinds, SameOrDiffer, Settles}
 use Rattle.hir_types.specs.declared.goal.Goal.TheVariants as goal
 use Rattle.hir_types.specs.declared.ty.Ty.TheVariants as ty
 use Rattle.infer_obligations.specs.Selection.{SelectsInWalk}
-
--- the scope of a body, from its parts
-abbrev pub body_scope : RawFacts → ℕ → Bool → Scope
-body_scope raw n b = record { facts = raw; params = n; associated = b }
 
 -- the two were made equal, or differ, where both are such types; and nothing is recorded
 pub record UnifiesInHand (g : Given) (t u : Ty) (old new : InferenceContext) : Type 0 where
@@ -21,7 +17,8 @@ pub record UnifiesInHand (g : Given) (t u : Ty) (old new : InferenceContext) : T
 pub record ReadsAlias (g : Given) (alias t : Ty) (old new : InferenceContext) : Type 0 where
   pub of_item : IsSystemOf old.goals.sources.facts old.goals.sources.item (system old.goals.sources.sources)
   pub found : Option Ty
-  pub is : IsTypeRead (system old.goals.sources.sources) old.goals.sources.facts.limits.goal_depth (resolved_type old.goals.table alias) found
+  pub is : IsTypeRead (system old.goals.sources.sources) old.goals.sources.facts.limits.goal_depth (resolved_type old.goals.table alias)
+      found
   pub made : (u : Ty) → found ≡ Some u → UnifiesInHand g (resolved_type old.goals.table t) u old new
   pub binds : OnlyBinds g old new
 
@@ -33,7 +30,8 @@ pub record ReadsGoal (g : Given) (q : Goal) (old new : InferenceContext) : Type 
 -- so were those of the first goals of these, one after another
 abbrev pub ReadsFirst : Given → List Goal → ℕ → InferenceContext → InferenceContext → Type 0
 ReadsFirst g qs zero old new = new ≡ old
-ReadsFirst g qs (suc n) old new = (mid : InferenceContext) × ReadsFirst g qs n old mid × ((q : Goal) → slice_get qs n ≡ Some q → ReadsGoal g q mid new)
+ReadsFirst g qs (suc n) old new =
+    (mid : InferenceContext) × ReadsFirst g qs n old mid × ((q : Goal) → slice_get qs n ≡ Some q → ReadsGoal g q mid new)
 
 pub record ReadsEach (g : Given) (qs : List Goal) (old new : InferenceContext) : Type 0 where
   pub binds : OnlyBinds g old new
@@ -94,24 +92,22 @@ abbrev pub ReadsTimes : Given → ℕ → InferenceContext → InferenceContext 
 ReadsTimes g zero old new = new ≡ old
 ReadsTimes g (suc n) old new = (mid : InferenceContext) × ReadsTimes g n old mid × ReadsAll g mid new
 
--- the last time bound no hole
-pub record ReadsNoMore (g : Given) (c : InferenceContext) : Type 0 where
-  pub before : InferenceContext
-  pub reads : ReadsAll g before c
-  pub none : length (bindings c.goals.table) ≡ length (bindings before.goals.table)
-
--- until that bound no hole any more, or as often as goals may be followed
+-- again and again, and the last time bound no hole
 pub record ReadsOn (g : Given) (old new : InferenceContext) : Type 0 where
   pub binds : OnlyBinds g old new
-  pub ends : ReadsNoMore g new ⊎ ReadsTimes g g.scope.facts.limits.goal_depth old new
+  pub times : ℕ
+  pub before : InferenceContext
+  pub first : ReadsTimes g times old before
+  pub again : ReadsAll g before new
+  pub none : length (bindings new.goals.table) ≡ length (bindings before.goals.table)
 
--- what all nodes need was read, goals were selected, and nothing that is asked of an expression is left open
+-- what all nodes need was read, goals were selected with what that said, and then nothing that is asked of an expression was left open
 pub record SettlesNeeds (g : Given) (old new : InferenceContext) : Type 0 where
   pub read : InferenceContext
   pub reads : ReadsOn g old read
   pub selected : InferenceContext
   pub selects : SelectsInWalk g read selected
-  pub settles : Settles g old new
+  pub settles : Settles g selected new
 
 -- so the walk ended
 pub record EndsSettled (g : Given) (c : InferenceContext) : Type 0 where

@@ -4,10 +4,13 @@ use Rattle.infer_obligations.specs.Words.{DefWithBodyId, RawBody, RawFacts, Fell
 
 -- ---- while a body is walked
 
--- under the bound of the facts goals were selected one after another until nothing selects any more, and nothing is recorded
+-- under the bound of the facts goals were selected one after another until nothing selects any more, by what the goals of the item are
+-- answered by, and nothing is recorded
 pub record SelectsAlone (g : Given) (old new : InferenceContext) : Type 0 where
+  pub of_item : IsSystemOf old.goals.sources.facts old.goals.sources.item (system old.goals.sources.sources)
   pub binds : OnlyBinds g old new
-  pub went : Went old.goals.sources.facts (system old.goals.sources.sources) true old.goals.table old.goals.obligations new.goals.table new.goals.obligations
+  pub went : Went old.goals.sources.facts (system old.goals.sources.sources) true old.goals.table old.goals.obligations new.goals.table
+      new.goals.obligations
   pub none_left : NoneLeft old.goals.sources.facts (system old.goals.sources.sources) true new.goals.table new.goals.obligations
 
 -- and then pairs that have become known were unified
@@ -20,7 +23,8 @@ pub record SelectsInWalk (g : Given) (old new : InferenceContext) : Type 0 where
 -- ---- once it is walked
 
 -- it is selected under the bound of the facts, then open holes for integer types fall back, and it is selected without a bound
-pub record AreSelected (raw : RawFacts) (f : System) (before : State) (first : Obligations) (after : State) (last : Obligations) : Type 0 where
+pub record AreSelected (raw : RawFacts) (f : System) (before : State) (first : Obligations) (after : State)
+    (last : Obligations) : Type 0 where
   pub bounded_table : State
   pub bounded : Obligations
   pub went : Went raw f true before first bounded_table bounded

@@ -4,13 +4,11 @@ ghost use Rattle.infer_obligations.specs.Words.{leaf, scope_of, new_state, IsSys
 ghost use Rattle.infer_obligations.specs.Own.{AreNoted, NotesAlias};
 
 use crate::own::known_ty;
+use goal_terms::{Term, type_term};
+use hir_facts::{DefWithBodyId, Facts, List, RawBody, Ty, TypeRefId, let_aliases, lower_ty};
 use hir_types::Head;
-use infer_coerce::goal_terms::{Term, type_term};
-use infer_coerce::hir_facts::{
-    DefWithBodyId, Facts, List, RawBody, Ty, TypeRefId, let_aliases, lower_ty,
-};
-use infer_coerce::infer_ctx::put;
-use infer_coerce::infer_goals::GoalTable;
+use infer_ctx::put;
+use infer_goals::GoalTable;
 use std::alloc::{AllocError, Global};
 
 /// The written type of this number.

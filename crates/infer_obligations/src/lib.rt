@@ -2,16 +2,12 @@
 //! the arguments of each call, and at the end.
 #![tactic(auto)]
 
-mod hand;
 mod lets;
-mod made;
 mod own;
 mod read;
 mod register;
 mod select;
 
-pub use infer_coerce;
-pub use infer_coerce::{goal_facts, hir_facts, infer_ctx, infer_goals, infer_result, infer_table};
 pub use lets::let_types;
 pub use own::{OwnTypes, own_types};
 pub use read::{read_all, read_for, read_pat, select_and_read, settle_needs};

@@ -2,11 +2,9 @@
 ghost use Rattle.std.specs.Prelude.{◌≡◌, ◌↔◌, IfOk, IsTrue, [], map, Some};
 ghost use Rattle.infer_obligations.specs.Words.{written_type, scope_of, HasBody, new_state, IsSystemOf, system, scope_item, IsKnownAs, EachIsKnownAs, AreOwnTypes, aliases_of};
 
-use crate::hand::is_in_hand;
-use infer_coerce::hir_facts::{
-    DefWithBodyId, Facts, Ty, TypeRefId, fn_aliases, lower_ty, return_ty,
-};
-use infer_coerce::infer_goals::GoalTable;
+use hir_facts::{DefWithBodyId, Facts, Ty, TypeRefId, fn_aliases, lower_ty, return_ty};
+use infer_goals::GoalTable;
+use infer_result::is_in_hand;
 use std::alloc::{AllocError, Global};
 
 /// The types of what a definition takes and gives, each where its body knows of one.

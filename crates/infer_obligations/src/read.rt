@@ -1,14 +1,13 @@
 //! Associated types that goals are about, read as far as their arguments are known.
-ghost use Rattle.std.specs.Prelude.{◌≡◌, ◌<◌, length, IfOk, OnOk};
+ghost use Rattle.std.specs.Prelude.{◌<◌, length, IfOk, OnOk};
 ghost use Rattle.infer_obligations.specs.Words.{given_of, scope_in, IsSound, IsOfBody, IsTold};
 ghost use Rattle.infer_obligations.specs.Own.{UnifiesInHand, ReadsAlias, ReadsGoal, ReadsEach, ReadsFor, SelectsAndReads, ReadsPath, ReadsPaths, ReadsPat, ReadsPats, ReadsAll, ReadsOn, SettlesNeeds};
 
-use crate::hand::is_in_hand;
 use crate::select::select_obligations_where_possible;
-use infer_coerce::hir_facts::{ExprId, ExprOrPatId, Goal, PatId, Ty};
-use infer_coerce::infer_ctx::{GivenBody, InferenceContext};
-use infer_coerce::infer_result::{expr_id, needed_goals, pat_id, pat_needs};
+use hir_facts::{ExprId, ExprOrPatId, Goal, PatId, Ty};
 use infer_coerce::{unify, unify_unknown};
+use infer_ctx::{GivenBody, InferenceContext};
+use infer_result::{expr_id, is_in_hand, needed_goals, pat_id, pat_needs};
 use std::alloc::{AllocError, Global};
 
 /// Makes two types equal, where both can be written in the scope of the body; else they differ, or nothing is done.
@@ -220,8 +219,7 @@ fn read_nodes(
     Ok(())
 }
 
-/// Reads them of all nodes until that binds no hole any more, at most as often as the facts let goals be followed: what one path
-/// gives may be what the associated type of another is of.
+/// Reads them of all nodes until that binds no hole any more: what one path gives may be what the associated type of another is of.
 pub fn read_all(
     alloc: Global,
     context: &mut InferenceContext,
@@ -231,15 +229,13 @@ pub fn read_all(
     requires sound { IsSound (scope_in given.now) context.old }
     ensures { OnOk result (ReadsOn (given_of given.now) context.old context.new) }
 {
-    let limit = given.facts.raw().limits.goal_depth;
-    for _pass in 0..limit {
+    'read: loop {
         let bound = context.goals.table.bound_count();
         read_nodes(alloc, context, given)?;
         if context.goals.table.bound_count() == bound {
             return Ok(());
         }
     }
-    Ok(())
 }
 
 /// Once the body is walked: reads the associated types that the needs of its nodes are about, selects what can be selected with what that

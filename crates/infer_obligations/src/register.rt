@@ -3,10 +3,10 @@ ghost use Rattle.std.specs.Prelude.{◌≡◌, ◌<◌, length, map, slice_get, 
 ghost use Rattle.infer_obligations.specs.Words.{RawExpr, HolesAreOf, Each, asked_goal, system, GoalIsOf, AreKept, HasAllOpen, needed_goals};
 ghost use Rattle.infer_obligations.specs.Own.{asked_for, Registers};
 
-use infer_coerce::hir_facts::{ExprId, ExprOrPatId, Goal, Ty};
-use infer_coerce::infer_ctx::GivenBody;
-use infer_coerce::infer_goals::GoalTable;
-use infer_coerce::infer_result::needed_goals;
+use hir_facts::{ExprId, ExprOrPatId, Goal, Ty};
+use infer_ctx::GivenBody;
+use infer_goals::GoalTable;
+use infer_result::needed_goals;
 use std::alloc::{AllocError, Global};
 
 /// Registers these goals, which an expression needs, in their order.

@@ -4,9 +4,9 @@ ghost use Rattle.std.specs.Prelude.{◌≡◌, true, OnOk};
 ghost use Rattle.infer_obligations.specs.Words.{IsSystemOf, system, AreKept, HasAllOpen, IsOfBody, IsTold, IsSound, given_of, scope_in};
 ghost use Rattle.infer_obligations.specs.Own.{AreSelected, SelectsAlone, SelectsInWalk};
 
-use infer_coerce::infer_ctx::{GivenBody, InferenceContext};
-use infer_coerce::infer_goals::GoalTable;
 use infer_coerce::unify_known;
+use infer_ctx::{GivenBody, InferenceContext};
+use infer_goals::GoalTable;
 use std::alloc::AllocError;
 
 /// Selects what can be selected of what nodes needed so far, at the types known so far, and binds holes as that says,

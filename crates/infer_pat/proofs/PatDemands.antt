@@ -17,7 +17,7 @@ says_binds_nothing (Some (pat.Tuple ps)) h = refl
 says_binds_nothing (Some (pat.TupleStruct v ps)) h = refl
 says_binds_nothing (Some (pat.Path q)) h = refl
 says_binds_nothing (Some (pat.Lit e)) h = absurd h
-says_binds_nothing (Some pat.Other) h = absurd h
+says_binds_nothing (Some (pat.Later later)) h = absurd h
 
 -- and a mismatch of it stands at it
 says_misfits : (r : InferenceResult) (p : PatId) (o : Option RawPat) → SaysItsType o → HasPatMismatch r p → MisfitsAs r p o
@@ -28,7 +28,7 @@ says_misfits r p (Some (pat.Tuple ps)) h m = m
 says_misfits r p (Some (pat.TupleStruct v ps)) h m = m
 says_misfits r p (Some (pat.Path q)) h m = m
 says_misfits r p (Some (pat.Lit e)) h m = absurd h
-says_misfits r p (Some pat.Other) h m = absurd h
+says_misfits r p (Some (pat.Later later)) h m = absurd h
 
 -- the walk has come to the pattern p alone, of which no type is there yet
 pub record IsOpening (g : Given) (s : Schedule) (p : PatId) (old c : Found) : Type 0 where

@@ -36,7 +36,7 @@ binder_by b p v (Some (pat.Tuple ps)) is k = absurd (cc)
 binder_by b p v (Some (pat.TupleStruct named ps)) is k = absurd (cc)
 binder_by b p v (Some (pat.Path named)) is k = absurd (cc)
 binder_by b p v (Some (pat.Lit e)) is k = absurd (cc)
-binder_by b p v (Some pat.Other) is k = absurd (cc)
+binder_by b p v (Some (pat.Later later)) is k = absurd (cc)
 
 -- The state of the walk at the clock n, but that what p binds may have no type yet.
 pub record IsOpen (g : Given) (s : Schedule) (p : PatId) (n : ℕ) (c : Found) : Type 0 where

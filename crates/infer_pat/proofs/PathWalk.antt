@@ -18,7 +18,6 @@ path_rule : (g : Given) (r q : InferenceResult) (e : ExprId) (p : RawPath) (t : 
 path_rule g r q e (path.Local v) t x has named k = (t, has, x.bindings v t k)
 path_rule g r q e (path.Function f) t x has named (ts, is, count) = (ts, subst (λ u. HasTy q e u) is has, count)
 path_rule g r q e (path.Ctor v) t x has named k = (t, has, k, x.expr_variants e v (named v refl))
-path_rule g r q e path.Other t x has named k = absurd k
 
 pub path_done : (g : Given) (s : Schedule) (e : ExprId) (x : Option Ty) (p : RawPath) (t : Ty) (c : Found) → IsInside g s e x c → slice_get g.body.exprs e.0 ≡ Some (expr.Path p) → IsCarriedType t → IsPathType g c.result p t → KindWalked g s e x t c c
 path_done g s e x p t c h is carried k =
@@ -30,8 +29,6 @@ pub path_names : (g : Given) (s : Schedule) (e : ExprId) (x : Option Ty) (p : Ra
 path_names g s e x (path.Local v) c h is = (let q = h.ready.law.scopes e v is in h.state.bound q.0 v q.1 (omega (arith, h.clock, q.2)))
 path_names g s e x (path.Function f) c h is = h.ready.written.functions e f is
 path_names g s e x (path.Ctor v) c h is = h.ready.written.constructors e v is
-path_names g s e x path.Other c h is =
-    let k : false ≡ true = carried_expr g.body e.0 (expr.Path path.Other) h.ready.law.carried is in absurd (cc)
 
 pub path_kind : (g : Given) (s : Schedule) (e : ExprId) (x : Option Ty) (p : RawPath) (t : Ty) (c new : InferenceContext) → Within g s e x c → slice_get g.body.exprs e.0 ≡ Some (expr.Path p) → PathDone g p t c new → KindDone g s e x t c new
 path_kind g s e x p t c new h is d = record {
@@ -55,7 +52,6 @@ names_open : (a : Assignment) (g : Given) (c : InferenceContext) (p : RawPath) �
 names_open a g c (path.Local v) (t, h) = let q = At-unclosed (folded a) c.result.type_of_binding v.0 t h in (q.0, q.1)
 names_open a g c (path.Function f) h = h
 names_open a g c (path.Ctor v) h = h
-names_open a g c path.Other h = absurd h
 
 -- a path names a local, which has a type, a function or a constructor
 pub path_typed : (g : Given) (s : Schedule) (e : ExprId) (x : Option Ty) (p : RawPath) (c : InferenceContext) → Within g s e x c → slice_get g.body.exprs e.0 ≡ Some (expr.Path p) → NamesTyped g c.result p

@@ -5,7 +5,7 @@ use Rattle.infer_pat.specs.Words.{PatId, Ty, BindingId, ExprId, RawPat, Schedule
 use Rattle.hir_types.specs.declared.ids.ExprOrPatId.TheVariants as node
 use Rattle.infer_pat.specs.Words.hir_raw.declared.raw.RawPat.TheVariants as pat
 use Rattle.infer_pat.specs.Words.infer_ctx.Found.{entered, bound_by}
-use Rattle.infer_pat.proofs.Words.{pat_ahead, expr_before, incoming_kept, noted_walks, noted_has, owed_paid}
+use Rattle.infer_pat.proofs.Words.{bind_has_no_parts, pat_ahead, expr_before, incoming_kept, noted_walks, noted_has, owed_paid}
 use Rattle.infer_pat.specs.Own.{IsPatPlaced, ComesToPat, PatWalked, IsLitPatOf}
 use Rattle.infer_pat.proofs.PatSteps.{enters_now, enters_done, IsBoundBy, IsRecordable, has_type, has_mode, has_binding, recorded_walked, enters_recorded, pat_entered, own_free, enters_more, open_walked}
 
@@ -60,7 +60,7 @@ module _ (g : Given) (s : Schedule) (p : PatId) (x : Option Ty) (t : Ty) (old : 
       let w : IsBoundBy (entered old) new p t (Some v) None = record { exprs = refl; pats = refl; bindings = refl; modes = refl; mismatches = refl; diagnostics = refl; pat_mismatches = refl; pat_diagnostics = refl; expr_variants = refl; pat_variants = refl; placeholders = refl; items = refl; seen = refl; holes = refl; clock = refl } in
       let binds : option_and_then binding_of (slice_get g.body.pats p.0) ≡ Some v = ap (λ o. option_and_then binding_of o) is in
       let r : IsRecordable g s p t (Some v) None (entered old) = recordable (Some v) binds in
-      done new (Some v) binds w (pat.Bind v sub) is refl (
+      done new (Some v) binds w (pat.Bind v sub) is (bind_has_no_parts g.body h.ready.law.carried p v sub is) (
         t,
         has_type g s p t (entered old) new (Some v) None r w,
         has_binding g s p t (entered old) new (Some v) None r w v refl,

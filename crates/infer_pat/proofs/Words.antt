@@ -1,5 +1,5 @@
 -- What this crate takes from those below it.
-pub use Rattle.infer_obligations.proofs.Words.{ctor_pattern, list_all_at, body_in_range}
+pub use Rattle.infer_obligations.proofs.Words.{bind_has_no_parts, ctor_pattern, list_all_at, asked_is_carried, carried_has_body, body_in_range}
 pub use Rattle.infer_obligations.proofs.Words.{get_from_take, grew_by_hole, grew_twice, grew_itself}
 pub use Rattle.infer_obligations.proofs.Words.{none_counted}
 pub use Rattle.infer_obligations.proofs.Words.{ctor_type_of_tuple, ctor_type_of_unit}

@@ -47,7 +47,6 @@ literal_type s x (literal.Bool b) = ty.Bool
 literal_type s x (literal.Char c) = ty.Char
 literal_type s x (literal.Int digits (Some i)) = integer_type i
 literal_type s x (literal.Int digits None) = unsuffixed_type s x
-literal_type s x literal.Other = ty.Error
 
 -- the type of an expression that is a literal, of which x is expected
 abbrev pub literal_type_at : State → Option Ty → Option RawExpr → Ty

@@ -9,16 +9,16 @@ use Rattle.infer_pat.specs.Words.hir_raw.declared.raw.RawExpr.TheVariants as exp
 -- the path names a local of this type, or a function or a constructor at as many types as it has parameters
 abbrev pub IsPathType : Given → InferenceResult → RawPath → Ty → Type 0
 IsPathType g r (path.Local v) t = BindingTy r v t
-IsPathType g r (path.Function f) t = (ts : List Ty) × (t ≡ ty.FnDef (callable.FunctionId f) (type_args ts)) × (callable_params g.scope.facts (callable.FunctionId f) ≡ Some (length ts))
+IsPathType g r (path.Function f) t =
+    (ts : List Ty) × (t ≡ ty.FnDef (callable.FunctionId f) (type_args ts))
+    × (callable_params g.scope.facts (callable.FunctionId f) ≡ Some (length ts))
 IsPathType g r (path.Ctor v) t = IsCtorPath g v t
-IsPathType g r path.Other t = ⊥
 
 -- it names a local that has a type, or a function or a constructor that exists
 abbrev pub NamesTyped : Given → InferenceResult → RawPath → Type 0
 NamesTyped g r (path.Local v) = (t : Ty) × BindingTy r v t
 NamesTyped g r (path.Function f) = IsItem g.scope.facts (callable.FunctionId f)
 NamesTyped g r (path.Ctor v) = IsVariant g.scope.facts v
-NamesTyped g r path.Other = ⊥
 
 -- ---- paths
 

@@ -44,7 +44,10 @@ pub record PatIsDemanded (p : PatId) (t : Ty) (x : Option Ty) (old new : Found) 
 
 -- there are as many parts as fields, or that there are not is said
 abbrev pub PartsAreCounted : PatId → ℕ → ℕ → Found → Found → Type 0
-PartsAreCounted p expected found old new = ((expected ≡ found) × (new ≡ old)) ⊎ ((expected ≡ found → ⊥) × (new ≡ findings.with_pat_diagnostic old p (diagnostic.MismatchedTupleStructPatArgCount (node.PatId p) expected found)))
+PartsAreCounted p expected found old new =
+    ((expected ≡ found) × (new ≡ old))
+    ⊎ ((expected ≡ found → ⊥) × (new
+    ≡ findings.with_pat_diagnostic old p (diagnostic.MismatchedTupleStructPatArgCount (node.PatId p) expected found)))
 
 abbrev pub IsTuplePatOf : RawBody → PatId → List PatId → Type 0
 IsTuplePatOf b p ps = slice_get b.pats p.0 ≡ Some (pat.Tuple ps)
@@ -142,7 +145,10 @@ pub record PatDemanded (g : Given) (p : PatId) (t : Ty) (x : Option Ty) (old new
 
 -- there are as many parts as fields, or that there are not is said
 abbrev pub PartsCounted : PatId → ℕ → ℕ → InferenceContext → InferenceContext → Type 0
-PartsCounted p expected found old new = ((expected ≡ found) × (new ≡ old)) ⊎ ((expected ≡ found → ⊥) × (new ≡ with_pat_diagnostic old p (diagnostic.MismatchedTupleStructPatArgCount (node.PatId p) expected found)))
+PartsCounted p expected found old new =
+    ((expected ≡ found) × (new ≡ old))
+    ⊎ ((expected ≡ found → ⊥) × (new
+    ≡ with_pat_diagnostic old p (diagnostic.MismatchedTupleStructPatArgCount (node.PatId p) expected found)))
 
 -- The constructor is recorded as the item of the pattern, where it has types beside the adt's, and what these are is read.
 abbrev pub ItemRead : Given → PatId → VariantId → List Ty → List Ty → InferenceContext → InferenceContext → Type 0
@@ -150,9 +156,10 @@ ItemRead g p v ts [] old new = new ≡ old
 ItemRead g p v ts (h ∷ hs) old new = ReadsPat g p.0 (with_pat_item old p (ctor_item v (ts ++ h ∷ hs))) new
 
 -- The adt of the variant at new holes is recorded as the type of the pattern, which has so many parts, and
--- is asked of what comes in. The constructor is recorded, at these and at a new hole for each associated type in the fields, and what these are
--- is read. The types ss are those of the fields.
-pub record CtorDemanded (g : Given) (p : PatId) (v : VariantId) (parts : ℕ) (ss : List Ty) (x : Option Ty) (old new : InferenceContext) : Type 0 where
+-- is asked of what comes in. The constructor is recorded, at these and at a new hole for each associated type in the fields, and what these
+-- are is read. The types ss are those of the fields.
+pub record CtorDemanded (g : Given) (p : PatId) (v : VariantId) (parts : ℕ) (ss : List Ty) (x : Option Ty)
+    (old new : InferenceContext) : Type 0 where
   pub item : IsVariant g.scope.facts v
   pub types : List Ty
   pub hidden : List Ty

@@ -5,10 +5,6 @@ mod literal;
 mod pat;
 mod path;
 
-pub use infer_obligations;
-pub use infer_obligations::{
-    goal_facts, hir_facts, infer_coerce, infer_ctx, infer_goals, infer_result,
-};
 pub use literal::infer_literal;
 pub use pat::infer_top_pat;
 pub use path::infer_expr_path;

@@ -1,10 +1,10 @@
 //! The types of literals.
-ghost use Rattle.std.specs.Prelude.{◌≡◌, IsTrue, IfOk, slice_get};
-ghost use Rattle.infer_pat.specs.Words.{is_carried_literal, IsLiteral, IsSound, given_of, schedule_of, expected_type, scope_in, Within, KindDone};
+ghost use Rattle.std.specs.Prelude.{◌≡◌, IfOk, slice_get};
+ghost use Rattle.infer_pat.specs.Words.{IsLiteral, IsSound, given_of, schedule_of, expected_type, scope_in, Within, KindDone};
 ghost use Rattle.infer_pat.specs.Own.{LiteralDone, IntDone, expected_integer, integer_for, literal_type_at};
 
-use infer_obligations::hir_facts::{ExprId, RawExpr, RawLiteral, Ty, UintTy};
-use infer_obligations::infer_ctx::{Expectation, GivenBody, InferenceContext};
+use hir_facts::{ExprId, RawExpr, RawLiteral, Ty, UintTy};
+use infer_ctx::{Expectation, GivenBody, InferenceContext};
 use std::alloc::AllocError;
 
 /// The type of an expression that is a literal: `infer/expr.rs`, `infer_expr_inner` at `Expr::Literal`.
@@ -38,8 +38,7 @@ fn literal_ty(
     literal: &RawLiteral,
     expected: Expectation,
 ) -> Result<Ty, AllocError>
-    requires carried { IsTrue (is_carried_literal literal.now) }
-    requires sound { IsSound (scope_in given.now) context.old }
+    requires { IsSound (scope_in given.now) context.old }
     ensures { IfOk result (λ ty. LiteralDone (scope_in given.now) (expected_type expected.entry) literal.now ty context.old context.new) }
 {
     match literal {
@@ -53,7 +52,6 @@ fn literal_ty(
             let ty = infer_unsuffixed(context, given, expected)?;
             Ok(ty)
         }
-        RawLiteral::Other => unreachable!(),
     }
 }
 

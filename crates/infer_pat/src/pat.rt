@@ -6,14 +6,12 @@ ghost use Rattle.infer_pat.specs.Own.{IsTuplePatOf, IsCtorPatOf, IsPathPatOf, Is
 
 use crate::literal::infer_literal;
 use crate::path::{fresh_args_for_item, infer_expr_path};
+use hir_facts::{BindingId, ExprId, List, PatId, RawPat, RawPath, Ty, VariantId, variant_arity};
 use hir_types::{CallableDefId, ExprOrPatId};
-use infer_obligations::hir_facts::{
-    BindingId, ExprId, List, PatId, RawPat, RawPath, Ty, VariantId, variant_arity,
-};
-use infer_obligations::infer_coerce::{copies, demand_coerce, unify};
-use infer_obligations::infer_ctx::{Expectation, GivenBody, InferenceContext, first_args};
-use infer_obligations::infer_result::{BindingMode, InferenceDiagnostic, TypeMismatch};
+use infer_coerce::{copies, demand_coerce, unify};
+use infer_ctx::{Expectation, GivenBody, InferenceContext, first_args};
 use infer_obligations::read_pat;
+use infer_result::{BindingMode, InferenceDiagnostic, TypeMismatch};
 use std::alloc::{AllocError, Global};
 
 /// Types a pattern that stands by itself, into which a value of this type comes:
@@ -76,7 +74,7 @@ fn infer_pat(
             )
         }
         RawPat::Path(path) => infer_path_pat(alloc, context, given, pat, *path, expected),
-        RawPat::Other => unreachable!(),
+        RawPat::Later(_) => unreachable!(),
     }
 }
 

@@ -4,11 +4,9 @@ ghost use Rattle.infer_pat.specs.Words.hir_raw.declared.raw.RawPath.TheVariants 
 ghost use Rattle.infer_pat.specs.Words.{IsOfBody, IsSound, given_of, scope_in, TellsRecorded, IsVariant};
 ghost use Rattle.infer_pat.specs.Own.{NamesTyped, PathDone, AreFreshArgs};
 
+use hir_facts::{List, RawCtor, RawPath, Ty, VariantId, fn_arity, variant_arity};
 use hir_types::{CallableDefId, GenericArg};
-use infer_obligations::hir_facts::{
-    List, RawCtor, RawPath, Ty, VariantId, fn_arity, variant_arity,
-};
-use infer_obligations::infer_ctx::{GivenBody, InferenceContext};
+use infer_ctx::{GivenBody, InferenceContext};
 use std::alloc::{AllocError, Global};
 
 /// The type of a path: that of the local that it names, or of the function or the constructor at
@@ -43,7 +41,6 @@ pub fn infer_expr_path(
             let ty = infer_ctor_path(alloc, context, given, variant)?;
             Ok(ty)
         }
-        RawPath::Other => unreachable!(),
     }
 }
 

@@ -3,7 +3,7 @@ ghost use Rattle.std.specs.Prelude.{◌≡◌, ◌++◌, OnOk, string_bytes};
 ghost use Rattle.infer_report.specs.Words.{goal_text};
 
 use super::types::{push_implements, push_projection, push_ty};
-use infer_result::hir_facts::{Goal, RawFacts};
+use hir_facts::{Goal, RawFacts};
 use std::alloc::AllocError;
 
 /// Writes a goal: traits and associated types by their names in the facts. What is out of range is

@@ -5,7 +5,7 @@ ghost use Rattle.infer_report.specs.Words.{recorded, gaps_at, line, def_line, va
 
 use super::goals::push_goal;
 use super::types::{push_ty, push_type};
-use infer_result::hir_facts::{DefWithBodyId, ExprOrPatId, Facts, List, RawFacts, Ty, VariantId};
+use hir_facts::{DefWithBodyId, ExprOrPatId, Facts, List, RawFacts, Ty, VariantId};
 use infer_result::{
     BindingMode, Gap, InferenceDiagnostic, InferenceResult, Mutability, TypeMismatch,
 };

@@ -5,11 +5,11 @@ ghost use Rattle.std.specs.Fmt.{decimal};
 ghost use Rattle.infer_report.specs.Words.{adt_params, int_text, uint_text, float_text, const_text, ref_text, ptr_text, label_text, safety_text, callable_text, separator, joined, tuple_text, args_text, own_count, adt_own_count, own_args, adt_text, implements_text, projection_text, arg_text, ty_text, type_text};
 ghost use Rattle.infer_report.specs.Own.{later_args_text, later_arg_text};
 
+use hir_facts::{RawFacts, RawTrait};
 use hir_types::{
     AdtId, CallableDefId, ClosureId, Const, FloatTy, GenericArg, IntTy, List, Mutability, Region,
     Safety, Ty, TypeAliasId, UintTy,
 };
-use infer_result::hir_facts::{RawFacts, RawTrait};
 use std::alloc::AllocError;
 
 fn int_name(int: IntTy) -> &'static str

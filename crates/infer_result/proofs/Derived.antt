@@ -227,7 +227,7 @@ module _ (g : Given) (t : InferenceResult) where
     | inr x ↦ inr (inl (record { signature = h.signature; types = h.types; is_callee = h.is_callee; arguments = x; has = h.has }))
   ]
   judged n (Some (expr.Call f args)) (inr (m, k)) = inl (inr m)
-  judged n (Some expr.Other) h = absurd h
+  judged n (Some (expr.Later later)) h = absurd h
 
 -- ---- types are there
 
@@ -235,7 +235,6 @@ path_type : (g : Given) (t : InferenceResult) (n : ExprId) (p : _) → PathRule 
 path_type g t n (path.Local v) (s, h, k) = (s, h)
 path_type g t n (path.Function f) (ts, h, k) = (ty.FnDef (callable.FunctionId f) (type_args ts), h)
 path_type g t n (path.Ctor v) (s, h, k, r) = (s, h)
-path_type g t n path.Other h = absurd h
 
 rule_type : (g : Given) (t : InferenceResult) (n : ExprId) (o : Option RawExpr) → Rule (at_or_mismatch g t) g t n o → (s : Ty) × HasTy t n s
 rule_type g t n None h = absurd h
@@ -247,7 +246,7 @@ rule_type g t n (Some (expr.If c first other)) h = (h.type, h.has)
 rule_type g t n (Some (expr.Match e arms)) h = (h.type, h.has)
 rule_type g t n (Some (expr.Call f args)) (inl h) = (at_args h.types h.signature.output, h.has)
 rule_type g t n (Some (expr.Call f args)) (inr (m, k)) = k
-rule_type g t n (Some expr.Other) h = absurd h
+rule_type g t n (Some (expr.Later later)) h = absurd h
 
 pat_type : (g : Given) (t : InferenceResult) (p : PatId) (o : Option RawPat) → PatRule g t p o → (s : Ty) × PatTy t p s
 pat_type g t p None h = absurd h
@@ -258,16 +257,14 @@ pat_type g t p (Some (pat.TupleStruct v ps)) h = (adt_at h.variant h.types, h.is
 pat_type g t p (Some (pat.Path (path.Ctor v))) (s, h, k, r) = (s, h)
 pat_type g t p (Some (pat.Path (path.Local v))) h = absurd h
 pat_type g t p (Some (pat.Path (path.Function f))) h = absurd h
-pat_type g t p (Some (pat.Path path.Other)) h = absurd h
 pat_type g t p (Some (pat.Lit e)) (s, h, k) = (s, h)
-pat_type g t p (Some pat.Other) h = absurd h
+pat_type g t p (Some (pat.Later later)) h = absurd h
 
 literal_type : (l : RawLiteral) (s r : Ty) → IsOwnType l s → IsLiteralType l r → r ≡ s
 literal_type (literal.Bool b) s r h k = k ∙ sym h
 literal_type (literal.Char c) s r h k = k ∙ sym h
 literal_type (literal.Int digits (Some suffix)) s r h k = k ∙ sym h
 literal_type (literal.Int digits None) s r h k = absurd h
-literal_type literal.Other s r h k = absurd h
 
 -- ---- the statements of a block of the body
 
@@ -419,7 +416,6 @@ module _ (g : Given) (t : InferenceResult) (h : IsMade g t) where
   -- a path to an item without generic parameters has that item's type, at no arguments
   bare_item : (e : ExprId) (q : RawPath) (i : CallableDefId) (σ : Signature) → PathRule g t e q → names_item q ≡ Some i → signature_of g.scope.facts i ≡ Some σ → σ.params ≡ 0 → HasTy t e (ty.FnDef i [])
   bare_item e (path.Local v) i σ h is s none = absurd (cc)
-  bare_item e path.Other i σ h is s none = absurd (cc)
   bare_item e (path.Function f) i σ (us, has, count) is s none =
       (let l : callable.FunctionId f ≡ i = cc in
       let k : length us ≡ 0 = fn_count g.scope.facts.types (slice_get g.scope.facts.fns f.0) us σ count (subst (λ j. signature_of g.scope.facts j ≡ Some σ) (sym l) s) ∙ none in

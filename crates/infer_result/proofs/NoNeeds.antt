@@ -33,7 +33,6 @@ module _
   path_none (path.Local v) = refl
   path_none (path.Function f) = entry_none (λ (x : RawFn). x.preds) (slice_get raw.fns f.0) (fns f.0)
   path_none (path.Ctor v) = variant_none (slice_get raw.variants v.0)
-  path_none path.Other = refl
 
   expr_none : (x : RawExpr) → expr_preds raw x ≡ []
   expr_none (expr.Path p) = path_none p

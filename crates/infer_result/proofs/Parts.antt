@@ -1,7 +1,8 @@
 -- Which node a part comes from.
-use Rattle.std.specs.Prelude.{ℕ, zero, suc, ◌+◌, ◌≡◌, ◌⊎◌, List, [], ◌∷◌, ◌++◌, slice_get, Option, Some, None, refl}
+use Rattle.std.specs.Prelude.{ℕ, zero, suc, ◌+◌, ◌≡◌, ◌⊎◌, Bool, true, false, List, [], ◌∷◌, ◌++◌, slice_get, Option, Some, None, refl}
 use Rattle.std.proofs.Common.{inl, inr, ap, subst, arith, ◌∙◌}
-use Rattle.infer_result.specs.Words.{ExprId, PatId, TypeRefId, VariantId, ExprOrPatId, RawStmt, RawArm, RawPat, RawExpr, RawBody, Role, parameter, root, initializer, let_pattern, let_else, statement, tail, element, condition, then_branch, else_branch, scrutinee, arm_pattern, guard, arm, callee, argument, subpattern, pattern_literal, Part, expr_part, pat_part, maybe_part, stmt_parts, stmts_parts, exprs_from, arm_patterns, arm_parts, arms_parts, subpatterns, param_parts, Node, the_body, inner, parts_of_expr, parts_of_pat, part_at, stmts_of, stmt_at}
+use Rattle.infer_result.specs.Words.{ExprId, PatId, TypeRefId, VariantId, ExprOrPatId, RawStmt, RawArm, RawPat, RawExpr, RawBody, Role, parameter, root, initializer, let_pattern, let_else, statement, tail, element, condition, then_branch, else_branch, scrutinee, arm_pattern, guard, arm, callee, argument, subpattern, pattern_literal, Part, expr_part, pat_part, maybe_part, stmt_parts, stmts_parts, exprs_from, arguments, arguments_from, is_closure, is_wanted, only_if, later_nodes, later_parts, later_pat_nodes, arm_patterns, arm_parts, arms_parts, subpatterns, param_parts, Node, the_body, inner, parts_of_expr, parts_of_pat, part_at, stmts_of, stmt_at}
+use Rattle.infer_result.specs.Words.hir_raw.Order.{later}
 use Rattle.hir_types.specs.declared.ids.ExprOrPatId.TheVariants as node
 use Rattle.infer_result.specs.Words.hir_raw.declared.raw.RawStmt.TheVariants as stmt
 use Rattle.infer_result.specs.Words.hir_raw.declared.raw.RawPat.TheVariants as pat
@@ -81,6 +82,21 @@ module _ (Q : Part → Type 0) where
   each_expr role i [] h = each_nil
   each_expr role i (e ∷ es) h = each_cons (expr_part (role i) e) (exprs_from role (suc i) es) (h i e) (each_expr role (suc i) es h)
 
+  each_argument : (b : RawBody) (closures : Bool) → ((j : ℕ) (e : ExprId) → Q (expr_part (argument j) e)) → (i : ℕ) (es : List ExprId) → Each Q (arguments_from b closures i es)
+  each_argument b closures h i [] = each_nil
+  each_argument b closures h i (e ∷ es) = each_append (only_if wanted (expr_part (argument i) e)) (arguments_from b closures (suc i) es) (one wanted) (each_argument b closures h (suc i) es)
+    where
+      wanted : Bool
+      wanted = is_wanted closures (is_closure b e)
+
+      one : (w : Bool) → Each Q (only_if w (expr_part (argument i) e))
+      one true = each_cons (expr_part (argument i) e) [] (h i e) each_nil
+      one false = each_nil
+
+  each_later : ((j : ℕ) (x : ExprOrPatId) → Q (record { node = x; role = later j })) → (i : ℕ) (xs : List ExprOrPatId) → Each Q (later_parts i xs)
+  each_later h i [] = each_nil
+  each_later h i (x ∷ xs) = each_cons (record { node = x; role = later i }) (later_parts (suc i) xs) (h i x) (each_later h (suc i) xs)
+
 from_zero : (i : ℕ) → i ≡ 0 + i
 from_zero i = omega arith
 
@@ -119,7 +135,7 @@ module _ (b : RawBody) (n : Node) where
         (each_append From (maybe_part (guard i) a.guard) (expr_part (arm i) a.expr ∷ []) (each_maybe From (guard i) a.guard (λ e. tt)) (each_cons From (expr_part (arm i) a.expr) [] tt (each_nil From)))
         (from_arms (suc i) arms)
 
-    from_expr : (o : Option RawExpr) → slice_get b.exprs m.0 ≡ o → Each From (parts_of_expr o)
+    from_expr : (o : Option RawExpr) → slice_get b.exprs m.0 ≡ o → Each From (parts_of_expr b o)
     from_expr (Some (expr.Tuple es)) is = each_expr From element 0 es (λ j e. tt)
     from_expr (Some (expr.Block label ss last)) is =
         each_append From (stmts_parts ss) (maybe_part tail last)
@@ -131,7 +147,10 @@ module _ (b : RawBody) (n : Node) where
     from_expr (Some (expr.Match d arms)) is =
         each_cons From (expr_part scrutinee d) (arm_patterns d 0 arms ++ arms_parts 0 arms) tt
         (each_append From (arm_patterns d 0 arms) (arms_parts 0 arms) (from_arm_patterns d arms is arms 0 (λ i a e. subst (λ j. slice_get arms j ≡ Some a) (from_zero i) e)) (from_arms 0 arms))
-    from_expr (Some (expr.Call f args)) is = each_cons From (expr_part callee f) (exprs_from argument 0 args) tt (each_expr From argument 0 args (λ j e. tt))
+    from_expr (Some (expr.Call f args)) is =
+        each_cons From (expr_part callee f) (arguments b args) tt
+        (each_append From (arguments_from b false 0 args) (arguments_from b true 0 args) (each_argument From b false (λ j e. tt) 0 args) (each_argument From b true (λ j e. tt) 0 args))
+    from_expr (Some (expr.Later x)) is = each_later From (λ j y. tt) 0 (later_nodes b x)
     from_expr _ is = each_nil From
 
   module _ (q : PatId) (here : n ≡ inner (node.PatId q)) where
@@ -146,6 +165,9 @@ module _ (b : RawBody) (n : Node) where
     from_pat (Some (pat.TupleStruct named ps)) is = from_subpatterns ps (inr (named, is)) ps 0 (λ i p e. subst (λ j. slice_get ps j ≡ Some p) (from_zero i) e)
     from_pat (Some (pat.Tuple ps)) is = from_subpatterns ps (inl is) ps 0 (λ i p e. subst (λ j. slice_get ps j ≡ Some p) (from_zero i) e)
     from_pat (Some (pat.Lit d)) is = each_cons From (expr_part pattern_literal d) [] tt (each_nil From)
+    from_pat (Some (pat.Bind v (Some p))) is = each_cons From (pat_part (later 0) p) [] tt (each_nil From)
+    from_pat (Some (pat.Bind v None)) is = each_nil From
+    from_pat (Some (pat.Later x)) is = each_later From (λ j y. tt) 0 (later_pat_nodes x)
     from_pat _ is = each_nil From
 
   from_params : (rest : List PatId) (from : ℕ) → ((i : ℕ) (p : PatId) → slice_get rest i ≡ Some p → slice_get b.params (from + i) ≡ Some p) → Each From (param_parts from rest)

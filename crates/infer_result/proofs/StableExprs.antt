@@ -86,7 +86,6 @@ module _ (a : Assignment) where
   literal_under (literal.Char c) s h = ap (folded a) h ∙ replaced_char (with_holes a)
   literal_under (literal.Int digits (Some suffix)) s h = ap (folded a) h ∙ integer_under a suffix
   literal_under (literal.Int digits None) s (i, h) = (i, ap (folded a) h ∙ integer_under a i)
-  literal_under literal.Other s h = h
 
   pub ctor_path_under : (g : Given) (v : VariantId) (s : Ty) → IsCtorPath g v s → IsCtorPath g v (folded a s)
   ctor_path_under g v s h = record {
@@ -104,7 +103,6 @@ module _ (g : Given) (law : IsLawful g.scope.facts) (a : Assignment) (t : Infere
   path_under n (path.Local v) (s, h, k) = (folded a s, type_under a t n s (folded a s) h refl, At-under (folded a) t.type_of_binding v.0 s k)
   path_under n (path.Function f) (ts, h, k) = (map (folded a) ts, type_under a t n _ _ h (item_under a (callable.FunctionId f) ts), count_under a _ ts k)
   path_under n (path.Ctor v) (s, h, k, r) = (folded a s, type_under a t n s (folded a s) h refl, ctor_path_under a g v s k, r)
-  path_under n path.Other h = h
 
   callee_under : (f : ExprId) (σ : Signature) (ts : List Ty) → IsCallee g t f σ ts → IsCallee g (table_under a t) f σ (map (folded a) ts)
   callee_under f σ ts h = record { item = h.item; has = type_under a t f _ _ h.has (item_under a h.item ts); signature = h.signature }
@@ -201,7 +199,7 @@ module _ (g : Given) (law : IsLawful g.scope.facts) (a : Assignment) (t : Infere
       alternatives = arms_under (arm_exprs arms) arms h.type h.alternatives;
     }
     rule_under n (Some (expr.Call f args)) h = call_under n f args h
-    rule_under n (Some expr.Other) h = h
+    rule_under n (Some (expr.Later later)) h = h
 
   pub expression_under : (n : ExprId) → ObeysExpression g t n → ObeysExpression g (table_under a t) n
   expression_under n h = rule_under (at_types g t) (at_types g after) (types_carry g a t) n (slice_get g.body.exprs n.0) h

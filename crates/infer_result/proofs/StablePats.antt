@@ -69,9 +69,8 @@ module _ (g : Given) (law : IsLawful g.scope.facts) (a : Assignment) (t : Infere
   kind_under p (Some (pat.Path (path.Ctor v))) (s, h, k, r) = (folded a s, pat_type_under a t p s (folded a s) h refl, ctor_path_under a g v s k, r)
   kind_under p (Some (pat.Path (path.Local v))) h = h
   kind_under p (Some (pat.Path (path.Function f))) h = h
-  kind_under p (Some (pat.Path path.Other)) h = h
   kind_under p (Some (pat.Lit e)) (s, h, k) = (folded a s, pat_type_under a t p s (folded a s) h refl, type_under a t e s (folded a s) k refl)
-  kind_under p (Some pat.Other) h = h
+  kind_under p (Some (pat.Later later)) h = h
 
   -- ---- what comes into a pattern
 

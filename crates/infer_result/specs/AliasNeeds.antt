@@ -41,7 +41,8 @@ alias_goals raw xs _ = []
 -- it needs none where no associated type stands in a signature
 module _
     (raw : RawFacts) (none : (n : ℕ) (x : RawFn) → slice_get raw.fns n ≡ Some x → fn_aliases raw.types x ≡ [])
-    (none_in_fields : (n : ℕ) (x : RawVariant) → slice_get raw.variants n ≡ Some x → variant_aliases raw.types x ≡ []) (xs : List GenericArg) where
+    (none_in_fields : (n : ℕ) (x : RawVariant) → slice_get raw.variants n ≡ Some x → variant_aliases raw.types x ≡ [])
+    (xs : List GenericArg) where
   fn_none : (n : ℕ) (o : Option RawFn) → slice_get raw.fns n ≡ o → fn_alias_goals raw xs o ≡ []
   fn_none n None is = refl
   fn_none n (Some x) is = ap (alias_goals_from raw xs (length x.params)) (none n x is)
@@ -54,7 +55,6 @@ module _
   path_none (path.Function f) = fn_none f.0 (slice_get raw.fns f.0) refl
   path_none (path.Local v) = refl
   path_none (path.Ctor v) = variant_none v.0 (slice_get raw.variants v.0) refl
-  path_none path.Other = refl
 
   pub none_for_aliases : (x : RawExpr) → alias_goals raw xs x ≡ []
   none_for_aliases (expr.Path p) = path_none p

@@ -1,9 +1,13 @@
--- Goals in which `{unknown}` stands: whether they could hold with other types in its place.
-use Rattle.std.specs.Prelude.{ℕ, ◌+◌, Option, Some, None}
+-- Goals in which `{unknown}` stands: whether they could hold with other types in its place, and whether what stands there could have been
+-- read.
+use Rattle.std.specs.Prelude.{ℕ, ◌+◌, Option, Some, None, List, ◌≡◌, ◌⊎◌}
 use Rattle.hir_types.specs.declared.head.Head.TheVariants as head
-use Rattle.infer_result.specs.Words.{Hole, Term, hole, leaf, pair, Asked, System, answers}
+use Rattle.infer_result.specs.Words.{Hole, Term, hole, leaf, pair, Asked, System, answers, args_of, asked_goal, Scope, TypeAliasId, GenericArg, Ty}
 use Rattle.hir_types.specs.declared.head.Hole.TheVariants as hole_of
 use Rattle.infer_result.specs.Proved.{HoldsUnknown}
+use Rattle.hir_types.specs.declared.goal.Goal.TheVariants as goal
+use Rattle.hir_types.specs.declared.ty.Ty.TheVariants as ty
+use Rattle.infer_result.specs.InHand.{IsKnownAs}
 
 -- the hole of this number for a term that begins so, where that is `{unknown}`
 abbrev pub hole_by : ℕ → Term → Option Hole
@@ -45,6 +49,21 @@ opened_goal a = record { kind = a.kind; parts = (opened 0 a.parts).term }
 abbrev pub CannotHold : System → ℕ → Asked → Type 0
 CannotHold f n a = (answers f n).No (opened_goal a)
 
--- `{unknown}` stands in it, and that isn't so
-abbrev pub MayHold : System → ℕ → Asked → Type 0
-MayHold f n a = HoldsUnknown a.parts × (CannotHold f n a → ⊥)
+-- it is about an associated type in whose arguments no `{unknown}` stands, and what this reads as at the depth can stand in a body in this
+-- scope
+pub record IsReadable (sc : Scope) (f : System) (n : ℕ) (a : Asked) : Type 0 where
+  pub alias : TypeAliasId
+  pub args : List GenericArg
+  pub type : Ty
+  pub is : asked_goal (goal.Projection alias args type) ≡ a
+  pub known : HoldsUnknown (args_of a.parts) → ⊥
+  pub read : Ty
+  pub reads : IsKnownAs sc f n (ty.Projection alias args) (Some read)
+
+-- so there is cause to say that it has no proof
+abbrev pub HasCause : Scope → System → ℕ → Asked → Type 0
+HasCause sc f n a = CannotHold f n a ⊎ IsReadable sc f n a
+
+-- `{unknown}` stands in it, and there is none
+abbrev pub MayHold : Scope → System → ℕ → Asked → Type 0
+MayHold sc f n a = HoldsUnknown a.parts × (HasCause sc f n a → ⊥)

@@ -103,7 +103,8 @@ head_by u f g (Some type.Bool) h has = has
 head_by u f g (Some type.Char) h has = has
 head_by u f g (Some (type.Integer i)) h has = has
 head_by u f g (Some (type.Tuple ts)) h has =
-    let lengths : length (map (λ (t : TypeRefId). f t.0) ts) ≡ length (map (λ (t : TypeRefId). g t.0) ts) = length-map ts (λ (t : TypeRefId). f t.0) ∙ sym (length-map ts (λ (t : TypeRefId). g t.0)) in
+    let lengths : length (map (λ (t : TypeRefId). f t.0) ts) ≡ length (map (λ (t : TypeRefId). g t.0) ts) =
+    length-map ts (λ (t : TypeRefId). f t.0) ∙ sym (length-map ts (λ (t : TypeRefId). g t.0)) in
     tuple_head (map (λ t. f t.0) ts) ∙ (ap (λ n. Some (tuple n)) lengths ∙ (sym (tuple_head (map (λ t. g t.0) ts)) ∙ has))
 head_by u f g (Some (type.Adt a ts)) h has =
     adt_head a (map (λ t. arg.Ty (f t.0)) ts) ∙ (sym (adt_head a (map (λ t. arg.Ty (g t.0)) ts)) ∙ has)

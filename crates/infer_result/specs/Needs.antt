@@ -1,7 +1,7 @@
--- Goals that nodes need: each path to an item the predicates of the item, and what the associated types in its signature or its fields are, at
--- the arguments that are recorded; each pattern of a constructor over patterns what the associated types in the fields are. Each is proved, or
--- it is said that it is not, or `{unknown}` stands in it and it may hold with other types there (The Rust Reference, "Trait and lifetime bounds":
--- bounds are checked where an item is used).
+-- Goals that nodes need: each path to an item the predicates of the item, and what the associated types in its signature or its fields are,
+-- at the arguments that are recorded; each pattern of a constructor over patterns what the associated types in the fields are. Each is
+-- proved, or it is said that it is not, or `{unknown}` stands in it, could not have been read, and it may hold with other types there
+-- (The Rust Reference, "Trait and lifetime bounds": bounds are checked where an item is used).
 use Rattle.std.specs.Prelude.{◌≡◌, ◌⊎◌, ℕ, List, [], ◌++◌, map, slice_get, Option, Some, None}
 use Rattle.std.proofs.Common.{ap, ◌∙◌, append-nil}
 use Rattle.infer_result.specs.Words.{CallableDefId, DefWithBodyId, GenericDefId, ExprOrPatId, TypeAliasId, Goal, AliasBound, GenericArg, TraitRef, Ty, Ty-F, out-Ty, Same, term, RawBody, RawExpr, RawGoal, RawPath, RawVariant, RawFacts, Fill, IsFilling, Asked, System, answers, Proof, goal_at, env_preds, asked_goal, IsSystemOf, AreProofs}
@@ -14,7 +14,7 @@ use Rattle.hir_types.specs.declared.ty.Ty.TheVariants as ty
 use Rattle.infer_result.specs.Words.hir_raw.declared.raw.RawExpr.TheVariants as expr
 use Rattle.infer_result.specs.Words.hir_raw.declared.raw.RawPath.TheVariants as path
 pub use Rattle.infer_result.specs.Proved.{HoldsUnknown, HoldsNoHole, IsProved}
-use Rattle.infer_result.specs.CannotHold.{CannotHold, MayHold}
+use Rattle.infer_result.specs.CannotHold.{MayHold, HasCause}
 use Rattle.infer_result.specs.AliasNeeds.{alias_goals, path_alias_goals}
 use Rattle.infer_result.specs.Closed.{AllTypes}
 use Rattle.infer_result.specs.Projections.{IsListedAs, GoalReads, AreFound, HasEntry, IsAboutAlias, stays_at, NoneIsLeft}
@@ -36,7 +36,6 @@ abbrev pub path_preds : RawFacts → RawPath → List RawGoal
 path_preds raw (path.Local v) = []
 path_preds raw (path.Function f) = env_preds raw (generic.FunctionId f)
 path_preds raw (path.Ctor v) = variant_preds raw (slice_get raw.variants v.0)
-path_preds raw path.Other = []
 
 abbrev pub expr_preds : RawFacts → RawExpr → List RawGoal
 expr_preds raw (expr.Path p) = path_preds raw p
@@ -53,8 +52,10 @@ abbrev pub needed_goals : RawFacts → RawExpr → Ty → List Asked
 needed_goals raw x t = map (goal_at raw (item_args (out-Ty t))) (expr_preds raw x) ++ alias_goals raw (item_args (out-Ty t)) x
 
 -- where none is for an associated type, these are the predicates
-pub needs_preds : (raw : RawFacts) (x : RawExpr) (t : Ty) → alias_goals raw (item_args (out-Ty t)) x ≡ [] → needed_goals raw x t ≡ map (goal_at raw (item_args (out-Ty t))) (expr_preds raw x)
-needs_preds raw x t none = let preds = map (goal_at raw (item_args (out-Ty t))) (expr_preds raw x) in ap (λ gs. preds ++ gs) none ∙ append-nil preds
+pub needs_preds : (raw : RawFacts) (x : RawExpr) (t : Ty) → alias_goals raw (item_args (out-Ty t)) x ≡ []
+    → needed_goals raw x t ≡ map (goal_at raw (item_args (out-Ty t))) (expr_preds raw x)
+needs_preds raw x t none = let preds = map (goal_at raw (item_args (out-Ty t))) (expr_preds raw x) in
+    ap (λ gs. preds ++ gs) none ∙ append-nil preds
 
 -- the path to an item
 abbrev pub item_path : CallableDefId → RawPath
@@ -130,15 +131,16 @@ IsClash r n a =
     (k : TypeAliasId) × (xs : List GenericArg) × (t : Ty) × (u : Ty) × HasGap r n (gap.Clash n (ty.Projection k xs) t u)
     × (asked_goal (goal.Projection k xs u) ≡ a)
 
--- it names its node, which needs the goal; no hole stands in it, and its answer isn't Yes, nor is it with other types where `{unknown}` stands in it
+-- it names its node, which needs the goal; no hole stands in it, and its answer isn't Yes; where `{unknown}` stands in it, no types there
+-- make it hold, or what stands there could have been read
 pub record IsTrueUnproved (g : Given) (f : System) (r : InferenceResult) (n : ExprOrPatId) (q : Goal) : Type 0 where
   pub needed : IsNeeded g r n (asked_goal q)
   pub whole : HoldsNoHole (asked_goal q).parts
-  pub known : HoldsUnknown (asked_goal q).parts → CannotHold f g.scope.facts.limits.goal_depth (asked_goal q)
+  pub known : HoldsUnknown (asked_goal q).parts → HasCause g.scope f g.scope.facts.limits.goal_depth (asked_goal q)
   pub fails : (answers f g.scope.facts.limits.goal_depth).Yes (asked_goal q) → ⊥
 
--- the associated type is listed as the first type; that it is the second, another one and not itself, is what the node needs, once it is read, and it
--- has a proof. No hole stands in it
+-- the associated type is listed as the first type; that it is the second, another one and not itself, is what the node needs, once it is
+-- read, and it has a proof. No hole stands in it
 pub record IsTrueClash (g : Given) (f : System) (r : InferenceResult) (n : ExprOrPatId) (a first second : Ty) : Type 0 where
   pub alias : TypeAliasId
   pub args : List GenericArg
@@ -174,18 +176,21 @@ scope_item raw (def.ConstId c) = generic.ConstId c
 scope_item raw (def.StaticId s) = generic.StaticId s
 scope_item raw (def.VariantId v) = adt_item (slice_get raw.variants v.0)
 
--- the proofs that are listed are proofs; each goal that a node needs is proved, or it is said that it isn't, or `{unknown}` stands in it, and
--- it isn't known that no type in its place makes it hold; and what is said is so, and said once at each node. What associated types were found to be is
+-- the proofs that are listed are proofs; each goal that a node needs is proved, or it is said that it isn't, or `{unknown}` stands in it,
+-- it isn't known that no type in its place makes it hold, and what stands there could not have been read; and what is said is so, and said
+-- once at each node. What associated types were found to be is
 -- listed: what a goal that is needed, once it is read, asks one to be, or another type, and this is said
 pub record GoalsHold (d : DefWithBodyId) (g : Given) (r : InferenceResult) : Type 0 where
   pub system : System
   pub of_item : IsSystemOf g.scope.facts (scope_item g.scope.facts d) system
   pub proofs : (s : Fill) → IsFilling s → AreProofs g.scope.facts system (answers system g.scope.facts.limits.goal_depth).Alias s r.proofs
-  pub needs : (n : ExprOrPatId) (a : Asked) → IsNeeded g r n a → IsProved r a ⊎ (IsUnproved r n a ⊎ MayHold system g.scope.facts.limits.goal_depth a)
+  pub needs : (n : ExprOrPatId) (a : Asked) → IsNeeded g r n a → IsProved r a
+      ⊎ (IsUnproved r n a ⊎ MayHold g.scope system g.scope.facts.limits.goal_depth a)
   pub gaps : (n : ExprOrPatId) (x : Gap) → HasGap r n x → IsTrueGap g system r n x
   pub once : (n : ExprOrPatId) (x y : Gap) (j : HasGap r n x) (k : HasGap r n y) → gap_says x ≡ gap_says y → j.number ≡ k.number
   pub found : AreFound r
-  pub entries : (n : ExprOrPatId) (a b : Asked) → IsNeeded g r n a → (HoldsUnknown a.parts → ⊥) → GoalReads system g.scope.facts.limits.goal_depth a b → IsAboutAlias b
+  pub entries : (n : ExprOrPatId) (a b : Asked) → IsNeeded g r n a → (HoldsUnknown a.parts → ⊥)
+      → GoalReads system g.scope.facts.limits.goal_depth a b → IsAboutAlias b
       → HasEntry r.projections b ⊎ (IsClash r n b ⊎ IsUnproved r n a)
 
 -- in no type of the table is an associated type left that could be read, by the sources of the item, unless the table says what it is
@@ -196,4 +201,5 @@ pub record HasNoneLeft (d : DefWithBodyId) (g : Given) (r : InferenceResult) : T
 
 -- the answer to each goal that a node needs is Yes
 abbrev pub NeedsHold : DefWithBodyId → Given → InferenceResult → Type 0
-NeedsHold d g r = (f : System) → IsSystemOf g.scope.facts (scope_item g.scope.facts d) f → (n : ExprOrPatId) (a : Asked) → IsNeeded g r n a → (answers f g.scope.facts.limits.goal_depth).Yes a
+NeedsHold d g r = (f : System) → IsSystemOf g.scope.facts (scope_item g.scope.facts d) f → (n : ExprOrPatId) (a : Asked) → IsNeeded g r n a
+    → (answers f g.scope.facts.limits.goal_depth).Yes a

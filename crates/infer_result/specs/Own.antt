@@ -1,12 +1,13 @@
 -- What this crate defines, from one place: for its code and proofs, and for the crates above.
 pub use Rattle.infer_result.specs.AliasNeeds.{alias_goal, alias_goals, alias_goals_by, alias_goals_from, fn_alias_goals, none_for_aliases, path_alias_goals, variant_alias_goals}
-pub use Rattle.infer_result.specs.CannotHold.{CannotHold, MayHold, Opened, hole_by, hole_for, opened_goal, put_or}
+pub use Rattle.infer_result.specs.CannotHold.{CannotHold, MayHold, Opened, hole_by, hole_for, opened_goal, put_or, HasCause, IsReadable}
 pub use Rattle.infer_result.specs.Closed.{AllSeen, AllTypes, IsBinder, IsClosedTable, IsItemOfPat, IsOfBody, IsTotal, IsVariantPat, NamesVariant, OnlyBindersHaveModes, OnlyCtorPatsHaveItems, OnlyNamedVariants}
 pub use Rattle.infer_result.specs.Demands.{Asks, AsksOf, Demand, IsAsked}
 pub use Rattle.infer_result.specs.Derivation.{HasNoComplaint, IsCalled, IsDerivation, IsPlainDerivation, IsPlainItem}
 pub use Rattle.infer_result.specs.Excused.{BodyIsExcused, ExcusedAs}
 pub use Rattle.infer_result.specs.General.{AreGeneralTypes, GivesPlain, HasGeneral, HasTypesOf, IsGeneralFor, IsGeneralOf, IsGeneralType, IsPlainClosing, closed_by, general_adt, general_bool, general_char, general_hole, general_integer, general_integer_hole, general_item, general_param, general_tuple, types_under}
 pub use Rattle.infer_result.specs.Heads.{HasHead, HeadOf, Outermost, filled_head, of_ctor, of_function, of_output, of_tuple, of_up, other, outermost_step, tuple}
+pub use Rattle.infer_result.specs.InHand.{CanStand, IsInHand, IsKnownAs, ReadsAsNone, body_scope, is_read_head}
 pub use Rattle.infer_result.specs.Incoming.{Gives, GivesPart, Incoming, IsInput}
 pub use Rattle.infer_result.specs.Kinds.Alternative.{AsksOfAlternative, IsBefore, IsOfOther}
 pub use Rattle.infer_result.specs.Kinds.Block.{IsBlockWithoutTail, LetRule, StmtHasMismatch, StmtRule, StmtsHaveMismatch, StmtsRule, TailRule}
@@ -19,7 +20,7 @@ pub use Rattle.infer_result.specs.Kinds.Path.{NamesLet, NamesParameter, NamesUni
 pub use Rattle.infer_result.specs.Kinds.Tuple.{AllAt}
 pub use Rattle.infer_result.specs.Made.{IsMade, IsMisfit}
 pub use Rattle.infer_result.specs.Needs.{GoalsHold, HasGap, HasNoneLeft, IsClash, IsNeeded, IsTrueClash, IsTrueGap, IsTrueUnproved, IsUnproved, NeedsHold, Saying, callee_needs, clashes, expr_preds, gap_says, item_args, item_path, needed_goals, needs_at, needs_of, needs_preds, node_needs, pat_needs_at, pat_needs_by, pat_needs_of, path_preds, scope_item, variant_preds, with_goals}
-pub use Rattle.infer_result.specs.OwnTypes.{AreLetTypes, AreOwnTypes, CanStand, EachIsKnownAs, HoldsPlaceholder, IsAliasKnownAs, IsInHand, IsKnownAs, aliases_of, fn_aliases_by, is_read_head, written_inputs}
+pub use Rattle.infer_result.specs.OwnTypes.{AreLetTypes, AreOwnTypes, EachIsKnownAs, HoldsPlaceholder, IsAliasKnownAs, aliases_of, fn_aliases_by, written_inputs}
 pub use Rattle.infer_result.specs.Pats.Constructor.{CtorPatRule, GivesField, IsItemOf, IsPatOf, PatsAtFields}
 pub use Rattle.infer_result.specs.Pats.Tuple.{AllPatsAt, GivesComponent}
 pub use Rattle.infer_result.specs.Places.{AreRecorded, Given, IsAsKnown, IsAt, IsAtMaybe, IsAtMaybeOrMismatch, IsAtOrMismatch, IsPlaceholder, MisfitsAs, OnlyPlaceholdersHaveTypes, PatIsAtOrMismatch, StandsAt, declared, hole_type, let_types}

@@ -1,45 +1,15 @@
 -- What a body knows of the types of what its definition takes and gives, and of the associated types in the types of its `let`s. Where no
--- associated type is written in what the definition takes and gives, these are the types that are written; else each is what it reads as in the
--- scope of the definition, if that can stand in the body (the Rust Reference, "Associated types"; upstream `infer.rs`, `collect_fn`, by
--- `process_user_written_ty`). So is each associated type that stands outermost in the type of a `let` (upstream `infer.rs`, `make_body_ty`).
-use Rattle.std.specs.Prelude.{ℕ, ◌≡◌, ◌⊎◌, ◌==◌, ◌&&◌, true, false, nat_lt, List, [], ◌∷◌, map, slice_get, Option, Some, None}
+-- associated type is written in what the definition takes and gives, these are the types that are written; else each is what it reads as in
+-- the scope of the definition, if that can stand in the body (the Rust Reference, "Associated types"; upstream `infer.rs`, `collect_fn`,
+-- by `process_user_written_ty`). So is each associated type that stands outermost in the type of a `let` (upstream `infer.rs`,
+-- `make_body_ty`).
+use Rattle.std.specs.Prelude.{ℕ, ◌≡◌, ◌⊎◌, List, [], ◌∷◌, map, slice_get, Option, Some, None}
 use Rattle.hir_types.specs.declared.head.Head.TheVariants as head
-use Rattle.infer_result.specs.Words.{DefWithBodyId, TypeRefId, Ty, Term, hole, leaf, pair, term, RawBody, RawFacts, RawFn, RawType, fn_aliases, let_aliases, Scope, scope_of, adt_params, alias_params, has_params, lowered, written_type, return_type, inputs_of, Shape, whole, IsMadeOf, State, new_state, HolesAreOf, System, TypeReads, IsTypeRead, IsSystemOf}
+use Rattle.infer_result.specs.Words.{DefWithBodyId, TypeRefId, Ty, Term, hole, leaf, pair, term, RawBody, RawFacts, RawFn, RawType, fn_aliases, let_aliases, Scope, scope_of, lowered, written_type, return_type, inputs_of, System, IsSystemOf}
 use Rattle.hir_types.specs.declared.ids.DefWithBodyId.TheVariants as def
 use Rattle.infer_result.specs.Needs.{scope_item}
 use Rattle.infer_result.specs.Table.{recorded}
-
--- The heads of types that can be written in this scope, or are associated types that stay, and over how many parts.
-abbrev pub is_read_head : Scope → Shape
-is_read_head sc head.Bool n = n == 0
-is_read_head sc head.Char n = n == 0
-is_read_head sc (head.Int i) n = n == 0
-is_read_head sc (head.Uint i) n = n == 0
-is_read_head sc head.Tuple n = true
-is_read_head sc (head.Adt id) n = has_params (adt_params sc.facts id) n
-is_read_head sc (head.Param i) n = n == 0 && nat_lt i sc.params
-is_read_head sc (head.AssociatedType k) n = sc.associated && has_params (alias_params sc.facts k) n
-is_read_head sc _ n = false
-
--- such a type, over holes that the table made
-pub record IsInHand (sc : Scope) (state : State) (t : Ty) : Type 0 where
-  pub heads : IsMadeOf (is_read_head sc) whole (term t)
-  pub holes : HolesAreOf state t
-
--- such a type without holes
-abbrev pub CanStand : Scope → Ty → Type 0
-CanStand sc t = IsInHand sc new_state t
-
--- what it reads as by these sources at the depth, if anything, cannot stand there
-pub record ReadsAsNone (sc : Scope) (f : System) (n : ℕ) (t : Ty) : Type 0 where
-  pub found : Option Ty
-  pub is : IsTypeRead f n t found
-  pub cannot : (u : Ty) → found ≡ Some u → CanStand sc u → ⊥
-
--- what a body in this scope knows of a type that is written with associated types
-abbrev pub IsKnownAs : Scope → System → ℕ → Ty → Option Ty → Type 0
-IsKnownAs sc f n t (Some u) = TypeReads f n t u × CanStand sc u
-IsKnownAs sc f n t None = ReadsAsNone sc f n t
+use Rattle.infer_result.specs.InHand.{CanStand, IsKnownAs}
 
 -- each of these is what a body knows of the written type at its place
 abbrev pub EachIsKnownAs : Scope → System → ℕ → List RawType → List TypeRefId → List (Option Ty) → Type 0
@@ -90,7 +60,9 @@ IsAliasKnownAs sc f n t None = HoldsPlaceholder (term t) ⊎ IsKnownAs sc f n t 
 
 -- each associated type that the `let`s are written with is known in this scope by these sources, by its number
 abbrev pub AliasesAreKnown : RawFacts → Scope → System → RawBody → List (Option Ty) → Type 0
-AliasesAreKnown raw sc f b known = (i k : ℕ) → slice_get (let_aliases raw.types b) i ≡ Some k → IsAliasKnownAs sc f raw.limits.goal_depth (lowered raw.types k) (recorded known k)
+AliasesAreKnown raw sc f b known =
+    (i k : ℕ) → slice_get (let_aliases raw.types b) i ≡ Some k
+    → IsAliasKnownAs sc f raw.limits.goal_depth (lowered raw.types k) (recorded known k)
 
 -- this is what the body of the definition knows of them, by the sources of its goals
 pub record AreKnownLets (raw : RawFacts) (d : DefWithBodyId) (b : RawBody) (known : List (Option Ty)) : Type 0 where

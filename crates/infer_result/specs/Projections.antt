@@ -1,5 +1,5 @@
--- What each associated type that a node's rule uses was found to be, as a table lists it, and what is left of them in its types: no order of
--- the nodes, no state.
+-- What each associated type that a node's rule uses was found to be, as a table lists it, and what is left of them in its types: no order
+-- of the nodes, no state.
 use Rattle.std.specs.Prelude.{◌≡◌, ◌⊎◌, ℕ, List, map, slice_get, Some}
 use Rattle.infer_result.specs.Words.{TypeAliasId, GenericArg, Ty, Term, hole, leaf, pair, chain, term, arg_term, answers, Asked, System, projects, args_of, type_of, IsRead, ReadsAs, staying, asked_goal, TypeReads}
 use Rattle.hir_types.specs.declared.goal.Goal.TheVariants as goal
@@ -31,8 +31,8 @@ pub record IsAboutAlias (a : Asked) : Type 0 where
   pub known : HoldsUnknown a.parts → ⊥
   pub other : type_of a.parts ≡ staying alias (args_of a.parts) → ⊥
 
--- the entry has an associated type first, and then another type that it has a proof to be, as such a goal asks, without holes. No associated type is
--- left to be read in its arguments, nor in the second: so no projection stands in either
+-- the entry has an associated type first, and then another type that it has a proof to be, as such a goal asks, without holes. No
+-- associated type is left to be read in its arguments, nor in the second: so no projection stands in either
 pub record IsFound (r : InferenceResult) (x : Ty × Ty) : Type 0 where
   pub alias : TypeAliasId
   pub args : List GenericArg
@@ -60,7 +60,8 @@ IsPartOf x (pair a b) = (x ≡ pair a b) ⊎ (IsPartOf x a ⊎ IsPartOf x b)
 abbrev pub StaysOrIsListed : System → ℕ → List (Ty × Ty) → TypeAliasId → List GenericArg → Type 0
 StaysOrIsListed f n js k xs =
     (u : Ty) → TypeReads f n (ty.Projection k xs) u
-    → (term u ≡ stays_at k xs) ⊎ (HasEntry js (asked_goal (goal.Projection k xs u)) ⊎ HoldsUnknown (asked_goal (goal.Projection k xs u)).parts)
+    → (term u ≡ stays_at k xs) ⊎ (HasEntry js (asked_goal (goal.Projection k xs u))
+    ⊎ HoldsUnknown (asked_goal (goal.Projection k xs u)).parts)
 
 -- so does each that stands in the type: none is left that could be read
 abbrev pub NoneIsLeft : System → ℕ → List (Ty × Ty) → Ty → Type 0

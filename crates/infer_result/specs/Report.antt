@@ -287,7 +287,8 @@ diagnostic_line raw (Some x) = line (diagnostic_text raw x)
 unfoldable pub gap_text : RawFacts → Gap → List ℕ
 gap_text raw (gap.Unproved n g) = codes "Unproved " ++ node_text n ++ codes " goal=" ++ goal_text raw g
 gap_text raw (gap.Clash n a t u) =
-    codes "Clash " ++ node_text n ++ type_field raw (codes " alias=") a ++ type_field raw (codes " first=") t ++ type_field raw (codes " second=") u
+    codes "Clash " ++ node_text n ++ type_field raw (codes " alias=") a ++ type_field raw (codes " first=") t
+    ++ type_field raw (codes " second=") u
 
 -- whatever its number at the node
 abbrev pub gap_line : RawFacts → ℕ → Gap → List ℕ
@@ -303,7 +304,8 @@ complaints raw letter diagnostics gaps i m = mismatch_line raw letter i m
 
 abbrev pub complaint_count : InferenceResult → ℕ
 complaint_count r =
-    count_by is_some r.expr_mismatches + count_by is_some r.expr_diagnostics + count_by is_some r.pat_mismatches + count_by is_some r.pat_diagnostics
+    count_by is_some r.expr_mismatches + count_by is_some r.expr_diagnostics + count_by is_some r.pat_mismatches + count_by is_some
+    r.pat_diagnostics
     + sum_by length r.expr_gaps + sum_by length r.pat_gaps
 
 abbrev pub report : DefWithBodyId → RawFacts → InferenceResult → List ℕ

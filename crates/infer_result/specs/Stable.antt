@@ -25,7 +25,8 @@ mismatch_under a m = mismatch (folded a m.expected) (folded a m.actual)
 -- of a complaint that what is called is no function, the type of that
 abbrev pub diagnostic_under : Assignment → InferenceDiagnostic → InferenceDiagnostic
 diagnostic_under a (diagnostic.MismatchedArgCount n expected found) = diagnostic.MismatchedArgCount n expected found
-diagnostic_under a (diagnostic.MismatchedTupleStructPatArgCount n expected found) = diagnostic.MismatchedTupleStructPatArgCount n expected found
+diagnostic_under a (diagnostic.MismatchedTupleStructPatArgCount n expected found) =
+    diagnostic.MismatchedTupleStructPatArgCount n expected found
 diagnostic_under a (diagnostic.ExpectedFunction n found) = diagnostic.ExpectedFunction n (folded a found)
 
 -- The table with each of its types under the assignment, those of complaints too. Modes and variants stay, and so do proofs and
@@ -51,7 +52,8 @@ IsStable Holds = (t : InferenceResult) (s r : Assignment) → Holds (table_under
 
 -- the pattern of which this one is a part, where there is one, obeys the rule of its kind
 abbrev pub WholeObeys : Given → InferenceResult → PatId → Type 0
-WholeObeys g r p = (whole : PatId) (k : ℕ) (role : Role) → StandsAt g.body (node.PatId p) (inner (node.PatId whole)) k role → PatRule g r whole (slice_get g.body.pats whole.0)
+WholeObeys g r p = (whole : PatId) (k : ℕ) (role : Role) → StandsAt g.body (node.PatId p) (inner (node.PatId whole)) k role
+    → PatRule g r whole (slice_get g.body.pats whole.0)
 
 -- Each rule is stable. No proviso on the types that stand for holes is needed, not even that `{unknown}` is in none: here it is a
 -- type like another, and the integer type that a literal is to have has no hole. Kinds with projections, look-ups of methods,
@@ -79,4 +81,6 @@ pub record HasClosedTypes (g : Given) : Type 0 where
 
 -- the rules of each body of the facts are, whatever closed types the body knows of what its definition takes and gives
 abbrev pub NodeRulesAreStable : RawFacts → Type 0
-NodeRulesAreStable raw = (d : DefWithBodyId) (b : RawBody) → body_of raw d ≡ Some b → (inputs : List (Option Ty)) (output : Option Ty) (aliases : List (Option Ty)) → HasClosedTypes (given_by raw d b inputs output aliases) → RulesAreStable (given_by raw d b inputs output aliases)
+NodeRulesAreStable raw = (d : DefWithBodyId) (b : RawBody) → body_of raw d ≡ Some b
+    → (inputs : List (Option Ty)) (output : Option Ty) (aliases : List (Option Ty))
+    → HasClosedTypes (given_by raw d b inputs output aliases) → RulesAreStable (given_by raw d b inputs output aliases)

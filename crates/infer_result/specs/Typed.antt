@@ -28,7 +28,8 @@ pub record IsTyped (g : Given) (r : InferenceResult) : Type 0 where
   pub truths : (e : ExprId) (x : TypeMismatch) → At r.expr_mismatches e.0 x → IsTrueMismatch g r e x
   pub complaints : IsTruthful g r
 
--- the body of a definition among its facts, with these types of what the definition takes and gives, and of the associated types in its `let`s
+-- the body of a definition among its facts, with these types of what the definition takes and gives, and of the associated types in its
+-- `let`s
 abbrev pub given_by : RawFacts → DefWithBodyId → RawBody → List (Option Ty) → Option Ty → List (Option Ty) → Given
 given_by raw d b inputs output aliases = record { scope = scope_of raw d; body = b; inputs = inputs; output = output; aliases = aliases }
 
@@ -36,7 +37,8 @@ given_by raw d b inputs output aliases = record { scope = scope_of raw d; body =
 abbrev pub given : RawFacts → DefWithBodyId → RawBody → Given
 given raw d b = given_by raw d b (written_inputs raw d) (Some (return_type raw d)) []
 
--- the table is one of the definition's body, typed, its types name what the facts have, and in none of them is an associated type left to be read
+-- the table is one of the definition's body, typed, its types name what the facts have, and in none of them is an associated type left to
+-- be read
 pub record IsTableOf (raw : RawFacts) (d : DefWithBodyId) (r : InferenceResult) : Type 0 where
   pub body : RawBody
   pub is_body : body_of raw d ≡ Some body

@@ -2,7 +2,7 @@
 
 ghost use Rattle.std.specs.Prelude.{◌≡◌, IfOk};
 
-use goal_facts::hir_facts::{ExprId, ExprOrPatId, Ty};
+use hir_facts::{ExprId, ExprOrPatId, Ty};
 use std::alloc::{AllocError, Global};
 
 /// A complaint at an expression or a pattern, other than a mismatch: `infer.rs`, `InferenceDiagnostic`.

@@ -1,6 +1,6 @@
 //! What of a body could not be shown.
 
-use goal_facts::hir_facts::{ExprOrPatId, Goal, Ty};
+use hir_facts::{ExprOrPatId, Goal, Ty};
 
 /// A complaint that is rust-analyzer's own no diagnostic of: its inference is silent there.
 #[derive(Debug, Drop, PartialEq, Eq)]

@@ -3,6 +3,8 @@
 
 mod diagnostics;
 mod gaps;
+mod hand;
+mod made;
 mod modes;
 mod needed;
 mod result;
@@ -11,7 +13,8 @@ mod unknown;
 
 pub use diagnostics::InferenceDiagnostic;
 pub use gaps::Gap;
-pub use goal_facts::{Proof, ProofSource, hir_facts};
+pub use goal_facts::{Proof, ProofSource};
+pub use hand::is_in_hand;
 pub use hir_types::Mutability;
 pub use modes::BindingMode;
 pub use needed::{callee_needs, expr_id, needed_goals, pat_id, pat_needs};

@@ -5,12 +5,12 @@ ghost use Rattle.infer_result.specs.Words.hir_raw.declared.raw.RawPath.TheVarian
 ghost use Rattle.infer_result.specs.Words.{adt_params, count_or_none, goal_at, env_preds, asked_goal, out-Ty};
 ghost use Rattle.infer_result.specs.Own.{alias_goal, alias_goals_by, alias_goals_from, fn_alias_goals, variant_alias_goals, path_alias_goals, alias_goals, path_preds, expr_preds, needed_goals, item_path, callee_needs, pat_needs_by};
 
-use goal_facts::hir_facts::{
+use goal_facts::{goals_of, push_instances};
+use hir_facts::{
     AdtId, CallableDefId, ExprId, Facts, FunctionId, GenericArg, Goal, List, PatId, RawExpr, RawFn,
     RawGoal, RawPath, RawType, RawVariant, Ty, TypeAliasId, TypeRefId, VariantId, fn_aliases,
     instantiate, variant_aliases,
 };
-use goal_facts::{goals_of, push_instances};
 use std::alloc::{AllocError, Global};
 
 fn fn_preds(facts: &Facts, function: FunctionId) -> &[RawGoal]
@@ -208,7 +208,7 @@ fn push_path_goals(
             Some(variant) => push_field_goals(alloc, facts, args, variant, made),
             None => Ok(()),
         },
-        RawPath::Local(_) | RawPath::Other => Ok(()),
+        RawPath::Local(_) => Ok(()),
     }
 }
 

@@ -6,9 +6,7 @@ use crate::diagnostics::InferenceDiagnostic;
 use crate::gaps::Gap;
 use crate::modes::BindingMode;
 use goal_facts::Proof;
-use goal_facts::hir_facts::{
-    BindingId, ExprId, ExprOrPatId, List, PatId, Ty, TypeRefId, VariantId,
-};
+use hir_facts::{BindingId, ExprId, ExprOrPatId, List, PatId, Ty, TypeRefId, VariantId};
 
 /// Two types that should be the same, at an expression or a pattern: `infer.rs`, `TypeMismatch`.
 #[derive(Debug, PartialEq, Eq, Hash)]

@@ -1,7 +1,7 @@
 //! Node rules are stable.
 ghost use Rattle.infer_result.specs.Own.{NodeRulesAreStable};
 
-use goal_facts::hir_facts::Facts;
+use hir_facts::Facts;
 
 /// Nothing: callers learn that the rules of each body of the facts are stable. Once a node of a table
 /// obeys its rule, it obeys it whatever types are put in the place of the holes that are left, the same

@@ -1,7 +1,8 @@
 -- How a run ends, whole.
-use Rattle.std.proofs.Common.{◌≡◌, ◌≤◌, length, ℕ, zero, suc, List, [], ◌∷◌, Bool, true, false, Option, Some, None, Err, Result, is_some, refl, ◌∙◌, ap, subst, arith}
+use Rattle.std.proofs.Common.{◌≡◌, ◌≤◌, ◌⊎◌, inl, inr, length, ℕ, zero, suc, List, [], ◌∷◌, Bool, true, false, Option, Some, None, Err, Result, is_some, refl, ◌∙◌, ap, subst, arith}
 use Rattle.std.proofs.lemmas.Bool.Decides.{nat_tests}
 use Rattle.std.specs.Io.KnownBytes.{Appends, Consumes, IsAtEnd, Keeps}
+use Rattle.hir_types.specs.declared.ids.BodyId.{BodyId}
 use Rattle.hir_types.specs.declared.ids.DefWithBodyId.{DefWithBodyId}
 use Rattle.hir_raw.specs.declared.raw.RawFacts.{RawFacts}
 use Rattle.infer_text.specs.Facts.{Fault, IsRead, Reads}
@@ -10,8 +11,8 @@ use Rattle.infer_text.specs.declared.fault.ReadError.{ReadError}
 use Rattle.infer_run.specs.Answer.{Answered, AnsweredText, is_answer, refusal, read, unread}
 use Rattle.infer_run.specs.Causes.{Rose}
 use Rattle.infer_result.specs.declared.result.InferenceResult.{InferenceResult}
-use Rattle.infer_run.specs.Outcome.{AppendsFront, Ends, TookAll, HasText, HasFacts, Reported, SourceFailed, SinkFailed, IsNoJson, IsMisshapen, BreaksLaw, HasNoBody, IsTooLong, Outcome, has_facts, has_table, has_fault}
-use Rattle.infer_run.specs.Request.{IsAsked, IsDue, meant, asking_for, keeps_table, status_by}
+use Rattle.infer_run.specs.Outcome.{AppendsFront, Ends, TookAll, HasText, HasFacts, Reported, SourceFailed, SinkFailed, IsNoJson, IsMisshapen, BreaksLaw, AsksLater, HasNoBody, IsTooLong, Outcome, has_facts, has_table, has_fault, later_fault}
+use Rattle.infer_run.specs.Request.{IsAsked, IsDue, IsLater, meant, asking_for, keeps_table, status_by}
 use Rattle.infer_run.specs.declared.running.Ran.{Ran}
 use Rattle.infer_run.specs.declared.words.Request.{Request}
 use Rattle.infer_run.specs.declared.words.Request.TheVariants as asked_for
@@ -28,7 +29,7 @@ AtStatus words e ran (suc (suc (suc (suc zero)))) = SinkFailed words e ran
 AtStatus words e ran (suc (suc (suc (suc (suc zero))))) = ran.fault ≡ Some error.OutOfMemory
 AtStatus words e ran (suc (suc (suc (suc (suc (suc zero)))))) = IsNoJson words e ran
 AtStatus words e ran (suc (suc (suc (suc (suc (suc (suc zero))))))) = IsMisshapen words e ran
-AtStatus words e ran (suc (suc (suc (suc (suc (suc (suc (suc zero)))))))) = BreaksLaw words e ran
+AtStatus words e ran (suc (suc (suc (suc (suc (suc (suc (suc zero)))))))) = BreaksLaw words e ran ⊎ AsksLater words e ran
 AtStatus words e ran (suc (suc (suc (suc (suc (suc (suc (suc (suc zero))))))))) = HasNoBody words e ran
 AtStatus words e ran (suc (suc (suc (suc (suc (suc (suc (suc (suc (suc zero)))))))))) = IsTooLong e
 AtStatus words e ran (suc (suc (suc (suc (suc (suc (suc (suc (suc (suc (suc n))))))))))) = ⊥
@@ -101,7 +102,7 @@ module _ (words : List (List ℕ)) (e : Ends) (request : Request) (asked : IsAsk
     by_fault (error.Shape path) reads written =
         whole words e (refusal (error.Shape path)) (record { read = has_text; path = path; stands = reads; fault_is = refl }) (named 7) (λ h k. written) refl (λ r a. refl) refl
     by_fault (error.Unlawful law list index) reads written =
-        whole words e (refusal (error.Unlawful law list index)) (record { read = has_text; law = law; list = list; index = index; stands = reads; fault_is = refl }) (named 8) (λ h k. written) refl (λ r a. refl) refl
+        whole words e (refusal (error.Unlawful law list index)) (inl (record { read = has_text; law = law; list = list; index = index; stands = reads; fault_is = refl })) (named 8) (λ h k. written) refl (λ r a. refl) refl
 
     -- it stands for lawful facts
     module _ (raw : RawFacts) (defs : List DefWithBodyId) (is_read : IsRead facts_of (meant request text) (raw, defs)) (ran : Ran) (a : Answered request raw defs e.written e.written_new e.writes e.writes_new ran) where
@@ -124,7 +125,8 @@ module _ (words : List (List ℕ)) (e : Ends) (request : Request) (asked : IsAsk
       answered (suc (suc (suc (suc (suc zero))))) is h = a.memory is
       answered (suc (suc (suc (suc (suc (suc zero)))))) is h = absurd (cc)
       answered (suc (suc (suc (suc (suc (suc (suc zero))))))) is h = absurd (cc)
-      answered (suc (suc (suc (suc (suc (suc (suc (suc zero)))))))) is h = absurd (cc)
+      answered (suc (suc (suc (suc (suc (suc (suc (suc zero)))))))) is h =
+          inr (record { read = has_text; raw = raw; defs = defs; is_read = is_read; says = a.later is })
       answered (suc (suc (suc (suc (suc (suc (suc (suc (suc zero))))))))) is h = record { found = with_facts (ap has_facts is); no_body = a.body is }
       answered (suc (suc (suc (suc (suc (suc (suc (suc (suc (suc zero)))))))))) is h = absurd (cc)
       answered (suc (suc (suc (suc (suc (suc (suc (suc (suc (suc (suc n))))))))))) is h = absurd (no_answer n h)
@@ -158,6 +160,7 @@ module _ (r : Request) (raw : RawFacts) (defs : List DefWithBodyId) (table : Opt
       done = λ le. absurd (omega arith);
       sink = λ is. record { rose = rose; due = due; status = status; is_due = is_due; wrote = wrote };
       memory = λ is. absurd (cc);
+      later = λ is. absurd (cc);
       body = λ is. absurd (cc);
       silent = λ le other. absurd (other refl);
       kinds = refl;
@@ -179,6 +182,7 @@ whole_written r raw defs table due true is_due old new before now wrote = record
   done = λ le. record { due = due; is_due = is_due; wrote = wrote };
   sink = λ is. absurd (cc);
   memory = λ is. absurd (cc);
+  later = λ is. absurd (cc);
   body = λ is. absurd (cc);
   silent = λ le other. absurd (omega arith);
   kinds = refl;
@@ -191,6 +195,7 @@ whole_written r raw defs table due false is_due old new before now wrote = recor
   done = λ le. record { due = due; is_due = is_due; wrote = wrote };
   sink = λ is. absurd (cc);
   memory = λ is. absurd (cc);
+  later = λ is. absurd (cc);
   body = λ is. absurd (cc);
   silent = λ le other. absurd (omega arith);
   kinds = refl;
@@ -208,6 +213,24 @@ kept (Some xs) = refl
 
 pub read_whole : (e : Ends) (text items : List ℕ) → text ≡ items → (length items ≤ 16777216) × Consumes e.left e.left_new items × IsAtEnd e.left_new → TookAll e text
 read_whole e text items is (short, consumed, ended) = record { took = record { short = rw is short; consumed = rw is consumed }; ended = ended }
+
+-- ---- a body that is not carried
+
+pub by_later : (r : Request) (raw : RawFacts) (defs : List DefWithBodyId) (body : BodyId) → IsLater r raw body → (old new : Option (List ℕ)) (before now : ℕ) → Keeps old new
+    → Answered r raw defs old new before now (refusal (later_fault body))
+by_later r raw defs body is_later old new before now keeps = record {
+  done = λ le. absurd (omega arith);
+  sink = λ is. absurd (cc);
+  memory = λ is. absurd (cc);
+  later = λ is. record { body = body; is_later = is_later; fault_is = refl };
+  body = λ is. absurd (cc);
+  silent = λ le other. keeps;
+  kinds = refl;
+  facts_is = λ h. absurd (cc);
+  facts = refl;
+  table = refl;
+  fault = refl;
+}
 
 -- ---- what a text stands for that is read for one definition
 

@@ -5,3 +5,4 @@ pub mod Three
 pub mod Endings
 pub mod Asked
 pub mod MadeReports
+pub mod Promised

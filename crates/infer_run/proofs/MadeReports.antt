@@ -6,7 +6,7 @@ use Rattle.std.proofs.lemmas.List.{append-nil, drop_all}
 use Rattle.std.specs.HashMap.{HashMap, get, hash_map_len, Updates}
 use Rattle.hir_types.specs.declared.ids.DefWithBodyId.{DefWithBodyId}
 use Rattle.hir_raw.specs.declared.raw.RawFacts.{RawFacts}
-use Rattle.hir_facts.specs.Bodies.{HasBody}
+use Rattle.hir_facts.specs.Bodies.{HasCarriedBody}
 use Rattle.infer_result.specs.declared.result.InferenceResult.{InferenceResult}
 use Rattle.infer_run.specs.Reports.{AreMade, Fits, IsReportOn, def_eq}
 use Rattle.infer_run.specs.Request.{IsOneOf, IsAnswer, IsSessionDue, answer_text, is_complaint, last_line, status_by}
@@ -42,14 +42,14 @@ none_some A h = cc
 -- ---- one more definition
 
 module _ {S : Type 0} (raw : RawFacts) (seen : List DefWithBodyId) (m : HashMap DefWithBodyId Report S) (a : AreMade raw seen m) (d : DefWithBodyId) where
-  before : (q : DefWithBodyId) → IsOneOf a.inferred q → IsOneOf (d ∷ seen) q × HasBody raw q
+  before : (q : DefWithBodyId) → IsOneOf a.inferred q → IsOneOf (d ∷ seen) q × HasCarriedBody raw q
   before q h = let p = (a.those q).0 h in (inr p.0, p.1)
 
-  -- which has no body
-  pub without_body : (HasBody raw d → ⊥) → AreMade raw (d ∷ seen) m
+  -- which has no body that is carried
+  pub without_body : (HasCarriedBody raw d → ⊥) → AreMade raw (d ∷ seen) m
   without_body lacks =
-      let back : (q : DefWithBodyId) → (d ≡ q) ⊎ IsOneOf seen q → HasBody raw q → IsOneOf a.inferred q = λ q h has. elim h [
-        | inl is ↦ absurd (lacks (subst (λ x. HasBody raw x) (sym is) has))
+      let back : (q : DefWithBodyId) → (d ≡ q) ⊎ IsOneOf seen q → HasCarriedBody raw q → IsOneOf a.inferred q = λ q h has. elim h [
+        | inl is ↦ absurd (lacks (subst (λ x. HasCarriedBody raw x) (sym is) has))
         | inr l ↦ (a.those q).1 (l, has)
       ] in
       record {
@@ -68,7 +68,7 @@ module _ {S : Type 0} (raw : RawFacts) (seen : List DefWithBodyId) (m : HashMap 
   pub is_there : IsSome (get def_eq m d) → AreMade raw (d ∷ seen) m
   is_there has_report =
       let here : IsOneOf a.inferred d = a.listed d (some_fit raw d (get def_eq m d) (a.answers d) (a.fits d) has_report) in
-      let back : (q : DefWithBodyId) → (d ≡ q) ⊎ IsOneOf seen q → HasBody raw q → IsOneOf a.inferred q = λ q h has. elim h [
+      let back : (q : DefWithBodyId) → (d ≡ q) ⊎ IsOneOf seen q → HasCarriedBody raw q → IsOneOf a.inferred q = λ q h has. elim h [
         | inl is ↦ subst (λ x. IsOneOf a.inferred x) is here
         | inr l ↦ (a.those q).1 (l, has)
       ] in
@@ -113,11 +113,11 @@ module _ {S : Type 0} (raw : RawFacts) (seen : List DefWithBodyId) (m : HashMap 
 
     pub one_more : (n : HashMap DefWithBodyId Report S) → Updates def_eq m n d (Some r) → hash_map_len n ≡ hash_map_len m + 1 → AreMade raw (d ∷ seen) n
     one_more n puts count =
-        let forth : (q : DefWithBodyId) → (d ≡ q) ⊎ IsOneOf a.inferred q → IsOneOf (d ∷ seen) q × HasBody raw q = λ q h. elim h [
-          | inl is ↦ (inl is, subst (λ x. HasBody raw x) is on.promised.has_body)
+        let forth : (q : DefWithBodyId) → (d ≡ q) ⊎ IsOneOf a.inferred q → IsOneOf (d ∷ seen) q × HasCarriedBody raw q = λ q h. elim h [
+          | inl is ↦ (inl is, subst (λ x. HasCarriedBody raw x) is on.promised.has_body)
           | inr l ↦ before q l
         ] in
-        let back : (q : DefWithBodyId) → (d ≡ q) ⊎ IsOneOf seen q → HasBody raw q → IsOneOf (d ∷ a.inferred) q = λ q h has. elim h [
+        let back : (q : DefWithBodyId) → (d ≡ q) ⊎ IsOneOf seen q → HasCarriedBody raw q → IsOneOf (d ∷ a.inferred) q = λ q h has. elim h [
           | inl is ↦ inl is
           | inr l ↦ inr ((a.those q).1 (l, has))
         ] in

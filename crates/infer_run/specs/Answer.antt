@@ -7,7 +7,7 @@ use Rattle.infer_text.specs.Facts.{IsRead, Reads}
 use Rattle.infer_text.specs.Session.{Session, facts_of}
 use Rattle.infer_text.specs.declared.fault.ReadError.{ReadError}
 use Rattle.infer_run.specs.Causes.{Rose}
-use Rattle.infer_run.specs.Outcome.{AppendsFront, has_facts, has_table, has_fault}
+use Rattle.infer_run.specs.Outcome.{AppendsFront, SaysLater, has_facts, has_table, has_fault}
 use Rattle.infer_run.specs.Request.{IsDue, LacksBody, meant}
 use Rattle.infer_run.specs.declared.running.Ran.{Ran}
 use Rattle.infer_run.specs.declared.words.Request.{Request}
@@ -20,7 +20,8 @@ pub record IsWhole (request : Request) (raw : RawFacts) (defs : List DefWithBody
   pub wrote : Appends old new due
 
 -- the sink failed before
-pub record IsCut (request : Request) (raw : RawFacts) (defs : List DefWithBodyId) (old new : Option (List ℕ)) (before now : ℕ) (ran : Ran) : Type 0 where
+pub record IsCut (request : Request) (raw : RawFacts) (defs : List DefWithBodyId) (old new : Option (List ℕ)) (before now : ℕ)
+    (ran : Ran) : Type 0 where
   pub rose : Rose before now
   pub due : List ℕ
   pub status : ℕ
@@ -28,12 +29,14 @@ pub record IsCut (request : Request) (raw : RawFacts) (defs : List DefWithBodyId
   pub wrote : AppendsFront old new due
 
 abbrev pub is_answer : ℕ → Bool
-is_answer n = nat_le n 1 || (n == 4 || (n == 5 || n == 9))
+is_answer n = nat_le n 1 || (n == 4 || (n == 5 || (n == 8 || n == 9)))
 
-pub record Answered (request : Request) (raw : RawFacts) (defs : List DefWithBodyId) (old new : Option (List ℕ)) (before now : ℕ) (ran : Ran) : Type 0 where
+pub record Answered (request : Request) (raw : RawFacts) (defs : List DefWithBodyId) (old new : Option (List ℕ)) (before now : ℕ)
+    (ran : Ran) : Type 0 where
   pub done : ran.status ≤ 1 → IsWhole request raw defs old new ran
   pub sink : ran.status ≡ 4 → IsCut request raw defs old new before now ran
   pub memory : ran.status ≡ 5 → ran.fault ≡ Some error.OutOfMemory
+  pub later : ran.status ≡ 8 → SaysLater request raw ran
   pub body : ran.status ≡ 9 → LacksBody request raw
   pub silent : 2 ≤ ran.status → (ran.status ≡ 4 → ⊥) → Keeps old new
   pub kinds : is_answer ran.status ≡ true
@@ -62,5 +65,7 @@ refusal f = record { status = fault_status f; facts = None; table = None; fault 
 
 -- the facts were answered, or it is said why there are none
 pub data AnsweredText (request : Request) (text : List ℕ) (old new : Option (List ℕ)) (before now : ℕ) (ran : Ran) : Type 0 where
-  read : (s : Session) → IsRead facts_of (meant request text) s → Answered request s.0 s.1 old new before now ran → AnsweredText request text old new before now ran
-  unread : (f : ReadError) → Reads facts_of (Err f) (meant request text) → ran ≡ refusal f → Keeps old new → AnsweredText request text old new before now ran
+  read : (s : Session) → IsRead facts_of (meant request text) s → Answered request s.0 s.1 old new before now ran
+      → AnsweredText request text old new before now ran
+  unread : (f : ReadError) → Reads facts_of (Err f) (meant request text) → ran ≡ refusal f → Keeps old new
+      → AnsweredText request text old new before now ran

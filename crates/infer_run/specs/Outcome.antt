@@ -1,16 +1,20 @@
 -- What a run of the command does, by the status that it ends with.
-use Rattle.std.specs.Prelude.{◌≡◌, ◌==◌, ◌||◌, ◌&&◌, ◌<◌, ◌≤◌, ◌+◌, ◌↔◌, ℕ, List, length, take, Bool, Option, Some, None, Result, Err, is_some, nat_le}
+use Rattle.std.specs.Prelude.{◌≡◌, ◌==◌, ◌||◌, ◌&&◌, ◌<◌, ◌≤◌, ◌+◌, ◌↔◌, ◌⊎◌, ℕ, List, length, take, Bool, Option, Some, None, Result, Err, is_some, nat_le}
 use Rattle.std.specs.Io.KnownBytes.{Appends, Consumes, IsAtEnd, Keeps}
+use Rattle.hir_types.specs.declared.ids.BodyId.{BodyId}
 use Rattle.hir_types.specs.declared.ids.DefWithBodyId.{DefWithBodyId}
 use Rattle.hir_raw.specs.declared.raw.RawFacts.{RawFacts}
 use Rattle.hir_facts.specs.declared.laws.Law.{Law}
 use Rattle.hir_facts.specs.declared.laws.FactsList.{FactsList}
 use Rattle.infer_text.specs.Facts.{Fault, IsUnlawful, no_json, shape, IsRead}
 use Rattle.infer_text.specs.Session.{Session, facts_of}
+use Rattle.infer_text.specs.declared.fault.ReadError.{ReadError}
 use Rattle.infer_run.specs.Causes.{Rose}
-use Rattle.infer_run.specs.Request.{IsAsked, IsDue, LacksBody, keeps_table, meant}
+use Rattle.infer_run.specs.Request.{IsAsked, IsDue, IsLater, LacksBody, keeps_table, meant}
 use Rattle.infer_run.specs.declared.running.Ran.{Ran}
 use Rattle.infer_run.specs.declared.words.Request.{Request}
+use Rattle.hir_facts.specs.declared.laws.Law.TheVariants as law
+use Rattle.hir_facts.specs.declared.laws.FactsList.TheVariants as list
 use Rattle.infer_text.specs.declared.fault.ReadError.TheVariants as error
 
 -- the most bytes that are read
@@ -131,6 +135,24 @@ pub record BreaksLaw (words : List (List ℕ)) (e : Ends) (ran : Ran) : Type 0 w
   pub stands : IsUnlawful facts_of (meaning read) law list index
   pub fault_is : ran.fault ≡ Some (error.Unlawful law list index)
 
+-- law 0 is broken by this body
+abbrev pub later_fault : BodyId → ReadError
+later_fault body = error.Unlawful law.Carried list.Bodies body.0
+
+-- it is said that the one definition that is asked for has a body that is not carried yet
+pub record SaysLater (request : Request) (raw : RawFacts) (ran : Ran) : Type 0 where
+  pub body : BodyId
+  pub is_later : IsLater request raw body
+  pub fault_is : ran.fault ≡ Some (later_fault body)
+
+-- the facts are lawful, and it has
+pub record AsksLater (words : List (List ℕ)) (e : Ends) (ran : Ran) : Type 0 where
+  pub read : HasText words e
+  pub raw : RawFacts
+  pub defs : List DefWithBodyId
+  pub is_read : IsRead facts_of (meaning read) (raw, defs)
+  pub says : SaysLater read.request raw ran
+
 -- the definition is out of range or has no body
 pub record HasNoBody (words : List (List ℕ)) (e : Ends) (ran : Ran) : Type 0 where
   pub found : HasFacts words e ran
@@ -164,7 +186,7 @@ pub record Outcome (words : List (List ℕ)) (e : Ends) (ran : Ran) : Type 0 whe
   pub memory : ran.status ≡ 5 → ran.fault ≡ Some error.OutOfMemory
   pub json : ran.status ≡ 6 → IsNoJson words e ran
   pub misshapen : ran.status ≡ 7 → IsMisshapen words e ran
-  pub unlawful : ran.status ≡ 8 → BreaksLaw words e ran
+  pub unlawful : ran.status ≡ 8 → BreaksLaw words e ran ⊎ AsksLater words e ran
   pub body : ran.status ≡ 9 → HasNoBody words e ran
   pub long : ran.status ≡ 10 → IsTooLong e
   pub silent : 2 ≤ ran.status → (ran.status ≡ 4 → ⊥) → Keeps e.written e.written_new

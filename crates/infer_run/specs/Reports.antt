@@ -3,7 +3,7 @@ use Rattle.std.specs.Prelude.{◌≡◌, ◌↔◌, List, length, string_bytes, 
 use Rattle.std.specs.HashMap.{HashMap, get, hash_map_len}
 use Rattle.hir_types.specs.declared.ids.DefWithBodyId.{DefWithBodyId}
 use Rattle.hir_raw.specs.declared.raw.RawFacts.{RawFacts}
-use Rattle.hir_facts.specs.Bodies.{HasBody}
+use Rattle.hir_facts.specs.Bodies.{HasCarriedBody}
 use Rattle.infer_result.specs.declared.result.InferenceResult.{InferenceResult}
 use Rattle.infer_result.specs.Report.{report}
 use Rattle.infer_run.specs.Request.{IsOneOf, AreDistinct, has_complaint}
@@ -31,14 +31,14 @@ Fits raw def (Some r) None = ⊥
 Fits raw def None (Some table) = ⊥
 Fits raw def None None = Unit {0}
 
--- the reports are those on the definitions with a body among these, each made once
+-- the reports are those on the definitions among these with a body that is carried, each made once
 pub record AreMade {S : Type 0} (raw : RawFacts) (defs : List DefWithBodyId) (reports : HashMap DefWithBodyId Report S) : Type 0 where
   pub answers : DefWithBodyId → Option InferenceResult
   pub inferred : List DefWithBodyId
   pub promised : (d : DefWithBodyId) → IfSome (answers d) (λ table. IsPromised raw d table)
   pub listed : (d : DefWithBodyId) → IsSome (answers d) → IsOneOf inferred d
   pub answered : (d : DefWithBodyId) → IsOneOf inferred d → IsSome (answers d)
-  pub those : (d : DefWithBodyId) → IsOneOf inferred d ↔ (IsOneOf defs d × HasBody raw d)
+  pub those : (d : DefWithBodyId) → IsOneOf inferred d ↔ (IsOneOf defs d × HasCarriedBody raw d)
   pub once : AreDistinct inferred
   pub fits : (d : DefWithBodyId) → Fits raw d (get def_eq reports d) (answers d)
   pub count : hash_map_len reports ≡ length inferred

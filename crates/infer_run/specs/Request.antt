@@ -2,9 +2,10 @@
 use Rattle.std.specs.Prelude.{◌≡◌, ◌⊎◌, ◌↔◌, ◌++◌, ℕ, List, [], ◌∷◌, length, flat_map, Bool, true, false, Option, Some, None, Result, Ok, Err, codes, nat_lt, if◌then◌else◌}
 use Rattle.std.specs.List.{list_any}
 use Rattle.std.specs.Fmt.{decimal}
+use Rattle.hir_types.specs.declared.ids.BodyId.{BodyId}
 use Rattle.hir_types.specs.declared.ids.DefWithBodyId.{DefWithBodyId}
 use Rattle.hir_raw.specs.declared.raw.RawFacts.{RawFacts}
-use Rattle.hir_facts.specs.Bodies.{HasBody}
+use Rattle.hir_facts.specs.Bodies.{HasBody, HasCarriedBody, body_id_of}
 use Rattle.infer_result.specs.declared.result.InferenceResult.{InferenceResult}
 use Rattle.infer_result.specs.Report.{report, complaint_count, line}
 use Rattle.infer_text.specs.Facts.{Fault, raw_facts}
@@ -60,15 +61,20 @@ abbrev pub AreDistinct : List DefWithBodyId → Type 0
 AreDistinct [] = Unit {0}
 AreDistinct (x ∷ xs) = (IsOneOf xs x → ⊥) × AreDistinct xs
 
--- a table is the definition's, or it has no body
+-- a table is the definition's, or it has no body that is carried
 abbrev pub IsAnswer : RawFacts → DefWithBodyId → Option InferenceResult → Type 0
 IsAnswer raw def (Some table) = IsPromised raw def table
-IsAnswer raw def None = HasBody raw def → ⊥
+IsAnswer raw def None = HasCarriedBody raw def → ⊥
+
+-- why there is no table of a definition with this body, or with none
+abbrev pub no_table : Option BodyId → List ℕ
+no_table (Some body) = codes "not carried"
+no_table None = codes "no body"
 
 -- the report on the table, or a line
 abbrev pub answer_text : RawFacts → DefWithBodyId → Option InferenceResult → List ℕ
 answer_text raw def (Some table) = report def raw table
-answer_text raw def None = line (codes "no body")
+answer_text raw def None = line (no_table (body_id_of raw def))
 
 abbrev pub is_complaint : Option InferenceResult → Bool
 is_complaint (Some table) = has_complaint table
@@ -79,13 +85,14 @@ abbrev pub last_line : ℕ → List ℕ
 last_line n = line (codes "inferred " ++ decimal n)
 
 -- Each definition that is asked for has its answer, and it is written as often as it is asked for. Those with a
--- body were inferred once each.
-pub record IsSessionDue (raw : RawFacts) (defs : List DefWithBodyId) (kept : Option InferenceResult) (due : List ℕ) (status : ℕ) : Type 0 where
+-- body that is carried were inferred once each.
+pub record IsSessionDue (raw : RawFacts) (defs : List DefWithBodyId) (kept : Option InferenceResult) (due : List ℕ)
+    (status : ℕ) : Type 0 where
   pub answers : DefWithBodyId → Option InferenceResult
   pub answered : (d : DefWithBodyId) → IsOneOf defs d → IsAnswer raw d (answers d)
   pub inferred : List DefWithBodyId
   pub once : AreDistinct inferred
-  pub those : (d : DefWithBodyId) → IsOneOf inferred d ↔ (IsOneOf defs d × HasBody raw d)
+  pub those : (d : DefWithBodyId) → IsOneOf inferred d ↔ (IsOneOf defs d × HasCarriedBody raw d)
   pub due_is : due ≡ flat_map (λ d. answer_text raw d (answers d)) defs ++ last_line (length inferred)
   pub none_kept : kept ≡ None
   pub status_is : status ≡ status_by (list_any (λ d. is_complaint (answers d)) defs)
@@ -99,8 +106,13 @@ IsDue request.Session raw defs kept due status = IsSessionDue raw defs kept due 
 
 -- something can be due
 abbrev pub CanAnswer : Request → RawFacts → Type 0
-CanAnswer (request.Table d) raw = HasBody raw d
+CanAnswer (request.Table d) raw = HasCarriedBody raw d
 CanAnswer request.Session raw = Unit {0}
+
+-- the one definition that is asked for has this body, which is not carried yet
+abbrev pub IsLater : Request → RawFacts → BodyId → Type 0
+IsLater (request.Table d) raw body = (body_id_of raw d ≡ Some body) × (HasCarriedBody raw d → ⊥)
+IsLater request.Session raw body = ⊥
 
 -- the one definition that is asked for is out of range or has no body
 abbrev pub LacksBody : Request → RawFacts → Type 0

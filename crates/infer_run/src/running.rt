@@ -7,7 +7,7 @@ ghost use Rattle.hir_types.specs.declared.ids.DefWithBodyId.{DefWithBodyId};
 ghost use Rattle.infer_run.specs.Answer.{Answered, AnsweredText, silence, refusal};
 ghost use Rattle.infer_run.specs.Causes.{Rose, HasCause};
 ghost use Rattle.infer_run.specs.Exactly.{Exactly};
-ghost use Rattle.infer_run.specs.Outcome.{AppendsFront, Outcome, between};
+ghost use Rattle.infer_run.specs.Outcome.{AppendsFront, Outcome, between, later_fault};
 ghost use Rattle.infer_run.specs.Request.{IsDue, status_by};
 ghost use Rattle.infer_run.specs.declared.words.Request.{Request};
 
@@ -15,7 +15,7 @@ use crate::ends::{Failed, Sink, Source};
 use crate::session::session_text;
 use crate::table::infer;
 use crate::words::{Request, asked};
-use hir_facts::{DefWithBodyId, Facts};
+use hir_facts::{BodyId, DefWithBodyId, Facts, FactsList, Law};
 use infer_report::{count_complaints, write_report};
 use infer_result::InferenceResult;
 use infer_text::{ReadError, read_facts, read_session};
@@ -31,8 +31,8 @@ pub struct Ran {
     pub status: u8,
     /// The facts, where they are lawful and memory sufficed.
     pub facts: Option<Facts>,
-    /// The table of the definition's body, where one definition is asked for and has a body. Of a plain body
-    /// it has the types before open holes fell back too.
+    /// The table of the definition's body, where one definition is asked for and has a body that is carried. Of a
+    /// plain body it has the types before open holes fell back too.
     pub table: Option<InferenceResult>,
     /// Why there are no facts.
     pub fault: Option<ReadError>,
@@ -149,17 +149,31 @@ fn finish<K: Sink>(
     }
 }
 
-/// Infers a definition's table, and writes the report on it.
+/// The run that ends since a definition's body is not carried yet.
+fn later(body: BodyId) -> Ran
+    ensures { result ≡ refusal (later_fault body) }
+{
+    refused(ReadError::Unlawful {
+        law: Law::Carried,
+        list: FactsList::Bodies,
+        index: body.0 as usize,
+    })
+}
+
+/// Infers a definition's table, and writes the report on it, where it has a body that is carried.
 fn answer_table<K: Sink>(alloc: Global, def: DefWithBodyId, facts: Facts, sink: &mut K) -> Ran
     ensures { (defs : List DefWithBodyId) → Answered (request.Table def) facts defs (K.written sink.old) (K.written sink.new) (K.faults sink.old) (K.faults sink.new) result }
 {
-    if !facts.has_body(def) {
+    let Some(body) = facts.body_id(def) else {
         return Ran {
             status: 9,
             facts: Some(facts),
             table: None,
             fault: None,
         };
+    };
+    if !facts.has_carried_body(def) {
+        return later(body);
     }
     let table = match infer(alloc, &facts, def) {
         Ok(table) => table,

@@ -3,11 +3,11 @@ ghost use Rattle.std.specs.Prelude.{◌≡◌, ◌++◌, ◌∷◌, List, Option
 ghost use Rattle.std.specs.List.{list_any};
 ghost use Rattle.std.specs.HashMap.{get};
 ghost use Rattle.hir_types.specs.declared.ids.DefWithBodyId.{DefWithBodyId};
-ghost use Rattle.hir_raw.specs.declared.raw.RawFacts.{RawFacts};
-ghost use Rattle.hir_facts.specs.Bodies.{HasBody};
+ghost use Rattle.hir_facts.specs.Bodies.{HasCarriedBody, body_id_of};
 ghost use Rattle.infer_result.specs.declared.result.InferenceResult.{InferenceResult};
+ghost use Rattle.infer_result.specs.Report.{line};
 ghost use Rattle.infer_run.specs.Reports.{AreMade, Fits, IsReportOn, def_eq};
-ghost use Rattle.infer_run.specs.Request.{IsSessionDue, answer_text, is_complaint, status_by};
+ghost use Rattle.infer_run.specs.Request.{IsSessionDue, answer_text, is_complaint, no_table, status_by};
 
 use crate::table::infer;
 use hir_facts::{DefWithBodyId, Facts};
@@ -24,7 +24,7 @@ pub struct Report {
 
 /// The report on a definition's table, which is let go.
 fn report_on(alloc: Global, facts: &Facts, def: DefWithBodyId) -> Result<Report, AllocError>
-    requires { HasBody facts.now def }
+    requires { HasCarriedBody facts.now def }
     ensures { IfOk result (λ r. IsReportOn facts.now def r) }
 {
     let table = infer(alloc, facts, def)?;
@@ -36,7 +36,7 @@ fn report_on(alloc: Global, facts: &Facts, def: DefWithBodyId) -> Result<Report,
     })
 }
 
-/// Makes the report on a definition with a body of which there is none yet.
+/// Makes the report on a definition with a body that is carried of which there is none yet.
 fn add_report(
     alloc: Global,
     facts: &Facts,
@@ -45,7 +45,7 @@ fn add_report(
 ) -> Result<(), AllocError>
     ensures { OnOk result ((seen : List DefWithBodyId) → AreMade facts.now seen reports.old → AreMade facts.now (def ∷ seen) reports.new) }
 {
-    if !facts.has_body(def) || reports.contains_key(&def) {
+    if !facts.has_carried_body(def) || reports.contains_key(&def) {
         return Ok(());
     }
     let report = report_on(alloc, facts, def)?;
@@ -53,7 +53,7 @@ fn add_report(
     Ok(())
 }
 
-/// The reports on those of the definitions that have a body.
+/// The reports on those of the definitions that have a body that is carried.
 fn make_reports(
     alloc: Global,
     facts: &Facts,
@@ -68,10 +68,25 @@ fn make_reports(
     Ok(reports)
 }
 
-/// Writes the report on a definition, or that it has no body, and tells whether that is complained of.
-fn push_answer(text: &mut String, report: Option<&Report>) -> Result<bool, AllocError>
-    ensures { (raw : RawFacts) (d : DefWithBodyId) (a : Option InferenceResult) → Fits raw d (option_map (λ r. r.now) report.entry) a
-        → IfOk result (λ c. (c ≡ is_complaint a) × (string_bytes text.new ≡ string_bytes text.old ++ answer_text raw d a)) }
+/// Why there is no report on a definition, as a line.
+fn no_report(facts: &Facts, def: DefWithBodyId) -> &'static str
+    ensures { result.now ≡ line (no_table (body_id_of facts.now def)) }
+{
+    match facts.body_id(def) {
+        Some(_) => "not carried\n",
+        None => "no body\n",
+    }
+}
+
+/// Writes the report on a definition, or why there is none, and tells whether that is complained of.
+fn push_answer(
+    text: &mut String,
+    facts: &Facts,
+    def: DefWithBodyId,
+    report: Option<&Report>,
+) -> Result<bool, AllocError>
+    ensures { (a : Option InferenceResult) → Fits facts.now def (option_map (λ r. r.now) report.entry) a
+        → IfOk result (λ c. (c ≡ is_complaint a) × (string_bytes text.new ≡ string_bytes text.old ++ answer_text facts.now def a)) }
 {
     match report {
         Some(report) => {
@@ -79,7 +94,7 @@ fn push_answer(text: &mut String, report: Option<&Report>) -> Result<bool, Alloc
             Ok(report.has_complaint)
         }
         None => {
-            text.push_str("no body\n")?;
+            text.push_str(no_report(facts, def))?;
             Ok(true)
         }
     }
@@ -88,17 +103,18 @@ fn push_answer(text: &mut String, report: Option<&Report>) -> Result<bool, Alloc
 /// Writes what each definition is answered with, and tells whether something is complained of.
 fn push_answers(
     text: &mut String,
+    facts: &Facts,
     defs: &[DefWithBodyId],
     reports: &HashMap<DefWithBodyId, Report>,
 ) -> Result<bool, AllocError>
-    ensures { (raw : RawFacts) (answers : DefWithBodyId → Option InferenceResult)
-        → ((d : DefWithBodyId) → Fits raw d (get def_eq reports.now d) (answers d))
+    ensures { (answers : DefWithBodyId → Option InferenceResult)
+        → ((d : DefWithBodyId) → Fits facts.now d (get def_eq reports.now d) (answers d))
         → IfOk result (λ c. (c ≡ list_any (λ d. is_complaint (answers d)) defs.now)
-        × (string_bytes text.new ≡ string_bytes text.old ++ flat_map (λ d. answer_text raw d (answers d)) defs.now)) }
+        × (string_bytes text.new ≡ string_bytes text.old ++ flat_map (λ d. answer_text facts.now d (answers d)) defs.now)) }
 {
     let mut complains = false;
     for def in defs {
-        complains |= push_answer(text, reports.get(def))?;
+        complains |= push_answer(text, facts, *def, reports.get(def))?;
     }
     Ok(complains)
 }
@@ -114,7 +130,7 @@ pub fn session_text(
 {
     let reports = make_reports(alloc, facts, defs)?;
     let mut text = String::new(alloc);
-    let complains = push_answers(&mut text, defs, &reports)?;
+    let complains = push_answers(&mut text, facts, defs, &reports)?;
     let count = reports.len();
     writeln!(&mut text, "inferred {count}")?;
     Ok((text, complains))

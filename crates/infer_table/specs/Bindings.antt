@@ -44,8 +44,10 @@ AllOf kinds (b ∷ bs) = IsOf kinds (bound_hole b) × AreOf kinds (bound_term b)
 
 -- each hole knows the place of its binding, and an open hole has none
 pub record ArePlaced (variables : List Variable) (log : List Binding) : Type 0 where
-  pub bound : (i : ℕ) (b : Binding) → slice_get log i ≡ Some b → (v : Variable) × (slice_get variables (hole_number (bound_hole b)) ≡ Some v) × (v.place ≡ Some i)
-  pub placed : (n : ℕ) (v : Variable) (i : ℕ) → slice_get variables n ≡ Some v → v.place ≡ Some i → (b : Binding) × (slice_get log i ≡ Some b) × (hole_number (bound_hole b) ≡ n)
+  pub bound : (i : ℕ) (b : Binding) → slice_get log i ≡ Some b → (v : Variable)
+      × (slice_get variables (hole_number (bound_hole b)) ≡ Some v) × (v.place ≡ Some i)
+  pub placed : (n : ℕ) (v : Variable) (i : ℕ) → slice_get variables n ≡ Some v → v.place ≡ Some i → (b : Binding)
+      × (slice_get log i ≡ Some b) × (hole_number (bound_hole b) ≡ n)
 
 -- what holds of the bindings at any time: no cycle, holes that were made alone, look-up in one step
 pub record IsKept (variables : List Variable) (log : List Binding) : Type 0 where

@@ -68,7 +68,8 @@ pub record BindsLeast (n : ℕ) (before after : Log) (t u : Term) : Type 0 where
   pub keeps : (s : Hole → Term) → Solves s after → Solves s before
   pub unifies : (s : Hole → Term) → Solves s after → apply s (first_opened n t) ≡ apply s (second_opened n t u)
   pub stand : (s : Hole → Term) → Solves s after → AllStand s bound
-  pub general : (s : Hole → Term) → Solves s before → apply s (first_opened n t) ≡ apply s (second_opened n t u) → AllStand s bound → Solves s after
+  pub general : (s : Hole → Term) → Solves s before → apply s (first_opened n t) ≡ apply s (second_opened n t u) → AllStand s bound
+      → Solves s after
 
 -- ---- which holes are left
 

@@ -151,7 +151,8 @@ triangular_append (p ∷ l) m h k f = (
 )
 
 -- one binding more, of a hole that is not bound, to a term that has every binding put in
-pub triangular_last : (l : Log) (x : Hole) (t : Term) → Triangular l → found l x ≡ None → Free l t → occurs x t ≡ false → Kept x t → Triangular (l ++ (x, t) ∷ [])
+pub triangular_last : (l : Log) (x : Hole) (t : Term) → Triangular l → found l x ≡ None → Free l t → occurs x t ≡ false → Kept x t
+    → Triangular (l ++ (x, t) ∷ [])
 triangular_last l x t h e f o k = triangular_append l ((x, t) ∷ []) h (o, k, tt, tt) (λ y b. (
   false_from_ne_true (hole_eq y x) (λ i. let P : Hole → Type 0 = λ z. binds l z ≡ true in
       both_ways (binds l x) (found_none l x e) (subst P (hole_eq_true y x i) b)),
@@ -181,7 +182,8 @@ solution_apply l (pair a b) = ap₂ pair (solution_apply l a) (solution_apply l 
 solves_later : (x : Hole) (u : Term) (l m : Log) → Absent x m → Solves (solution l) m → Solves (solution ((x, u) ∷ l)) m
 solves_later x u l [] h k = tt
 solves_later x u l (q ∷ m) h k = (
-  ap (resolved l) (sub_absent x u (hole q.0) h.0) ∙ k.0 ∙ solution_apply l q.1 ∙ ap (resolved l) (sym (sub_absent x u q.1 h.1)) ∙ sym (solution_apply ((x, u) ∷ l) q.1),
+  ap (resolved l) (sub_absent x u (hole q.0) h.0) ∙ k.0 ∙ solution_apply l q.1 ∙ ap (resolved l) (sym (sub_absent x u q.1 h.1)) ∙ sym
+      (solution_apply ((x, u) ∷ l) q.1),
   solves_later x u l m h.2 k.1,
 )
 
@@ -211,7 +213,8 @@ abbrev pub BindsOf : List HoleKind → Log → Type 0
 BindsOf kinds [] = Unit {0}
 BindsOf kinds (p ∷ l) = IsOf kinds p.0 × AreOf kinds p.1 × BindsOf kinds l
 
-pub binds_of_at : (kinds : List HoleKind) (l : Log) (i : ℕ) (x : Hole) (t : Term) → BindsOf kinds l → slice_get l i ≡ Some (x, t) → IsOf kinds x × AreOf kinds t
+pub binds_of_at : (kinds : List HoleKind) (l : Log) (i : ℕ) (x : Hole) (t : Term) → BindsOf kinds l → slice_get l i ≡ Some (x, t)
+    → IsOf kinds x × AreOf kinds t
 binds_of_at kinds [] i x t h e = cc
 binds_of_at kinds ((z, v) ∷ l) zero x t h e =
     let q = same_pair e in
@@ -220,7 +223,8 @@ binds_of_at kinds ((z, v) ∷ l) zero x t h e =
     (subst P q.0 h.0, subst Q q.1 h.1)
 binds_of_at kinds (p ∷ l) (suc i) x t h e = binds_of_at kinds l i x t h.2 e
 
-pub binds_of_found : (kinds : List HoleKind) (l : Log) (x : Hole) (t : Term) → BindsOf kinds l → found l x ≡ Some t → IsOf kinds x × AreOf kinds t
+pub binds_of_found : (kinds : List HoleKind) (l : Log) (x : Hole) (t : Term) → BindsOf kinds l → found l x ≡ Some t → IsOf kinds x
+    × AreOf kinds t
 binds_of_found kinds l x t h e = let p = found_place l x t e in binds_of_at kinds l p.0 x t h p.1
 
 pub are_of_hole : (kinds : List HoleKind) (x : Hole) → IsOf kinds x → AreOf kinds (hole x)

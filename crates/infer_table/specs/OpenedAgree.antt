@@ -64,7 +64,8 @@ differs_at p a b = elim p [
 -- an alias stays an alias, `{unknown}` stays `{unknown}`
 pub place_resolved : (l : Log) (a b : Term) → (place (pair a b) ≡ plain → ⊥) → place (resolved l (pair a b)) ≡ place (pair a b)
 place_resolved l (hole k) b h = absurd (h refl)
-place_resolved l (leaf k) b h = ap place (resolved_pair l (leaf k) b ∙ ap (λ (z : Term). pair z (resolved l b)) (resolved_leaf l k)) ∙ place_leaf k (resolved l b) b
+place_resolved l (leaf k) b h =
+    ap place (resolved_pair l (leaf k) b ∙ ap (λ (z : Term). pair z (resolved l b)) (resolved_leaf l k)) ∙ place_leaf k (resolved l b) b
 place_resolved l (pair a c) b h = absurd (h refl)
 
 abbrev pub IsNotPlain : Place → Type 0
@@ -112,18 +113,24 @@ unknown_const_differs : (a x : Term) → place a ≡ unknown_const → MayDiffer
 unknown_const_differs a x e = let P : Place → Type 0 = λ p. differs_at p a x in subst P (sym e) tt
 
 -- a term with its places opened agrees with the term itself
-self_agree_at : (p : Place) (l : Log) (n : ℕ) (a b : Term) → place (pair a b) ≡ p → ((m : ℕ) → AreSettled l (origins m a) → Agree (resolved l (opened m a).0) (resolved l a)) → ((m : ℕ) → AreSettled l (origins m b) → Agree (resolved l (opened m b).0) (resolved l b)) → AreSettled l (origins_at p n a b) → Agree (resolved l (opened_at p n a b).0) (resolved l (pair a b))
+self_agree_at : (p : Place) (l : Log) (n : ℕ) (a b : Term) → place (pair a b) ≡ p
+    → ((m : ℕ) → AreSettled l (origins m a) → Agree (resolved l (opened m a).0) (resolved l a))
+    → ((m : ℕ) → AreSettled l (origins m b) → Agree (resolved l (opened m b).0) (resolved l b)) → AreSettled l (origins_at p n a b)
+    → Agree (resolved l (opened_at p n a b).0) (resolved l (pair a b))
 self_agree_at plain l n a b e f g h =
     rw (resolved_pair l (opened n a).0 (opened (opened n a).1 b).0) (rw (resolved_pair l a b)
     (pairs_agree (resolved l (opened n a).0) (resolved l (opened (opened n a).1 b).0) (resolved l a) (resolved l b)
     (f n (settled_left l (origins n a) (origins (opened n a).1 b) h))
     (g (opened n a).1 (settled_right l (origins n a) (origins (opened n a).1 b) h))))
 self_agree_at alias l n a b e f g h =
-    differed_agree (resolved l (hole (hole_of.Ty n))) (resolved l (pair a b)) (alias_differs (resolved l (pair a b)) (resolved l (hole (hole_of.Ty n))) (place_kept l a b alias tt e) h.0)
+    differed_agree (resolved l (hole (hole_of.Ty n))) (resolved l (pair a b))
+    (alias_differs (resolved l (pair a b)) (resolved l (hole (hole_of.Ty n))) (place_kept l a b alias tt e) h.0)
 self_agree_at unknown_type l n a b e f g h =
-    differed_agree (resolved l (hole (hole_of.Ty n))) (resolved l (pair a b)) (unknown_type_differs (resolved l (pair a b)) (resolved l (hole (hole_of.Ty n))) (place_kept l a b unknown_type tt e))
+    differed_agree (resolved l (hole (hole_of.Ty n))) (resolved l (pair a b))
+    (unknown_type_differs (resolved l (pair a b)) (resolved l (hole (hole_of.Ty n))) (place_kept l a b unknown_type tt e))
 self_agree_at unknown_const l n a b e f g h =
-    differed_agree (resolved l (hole (hole_of.Const n))) (resolved l (pair a b)) (unknown_const_differs (resolved l (pair a b)) (resolved l (hole (hole_of.Const n))) (place_kept l a b unknown_const tt e))
+    differed_agree (resolved l (hole (hole_of.Const n))) (resolved l (pair a b))
+    (unknown_const_differs (resolved l (pair a b)) (resolved l (hole (hole_of.Const n))) (place_kept l a b unknown_const tt e))
 
 pub self_agree : (l : Log) (n : ℕ) (t : Term) → AreSettled l (origins n t) → Agree (resolved l (opened n t).0) (resolved l t)
 self_agree l n (hole k) h = agree_same (resolved l (hole k))
@@ -133,44 +140,62 @@ self_agree l n (pair a b) h = self_agree_at (place (pair a b)) l n a b refl (λ 
 -- ---- both opened
 
 -- what is no plain pair agrees with every pair
-pair_outside_agree : (p : Place) (l : Log) (a b c d : Term) → IsNotPlain p → place (pair a b) ≡ p → Agree (resolved l (pair a b)) (resolved l (pair c d))
+pair_outside_agree : (p : Place) (l : Log) (a b c d : Term) → IsNotPlain p → place (pair a b) ≡ p
+    → Agree (resolved l (pair a b)) (resolved l (pair c d))
 pair_outside_agree plain l a b c d n e = absurd n
 pair_outside_agree alias l a b c d n e =
-    differ_agree (resolved l (pair a b)) (resolved l (pair c d)) (alias_differs (resolved l (pair a b)) (resolved l (pair c d)) (place_kept l a b alias tt e)
+    differ_agree (resolved l (pair a b)) (resolved l (pair c d))
+    (alias_differs (resolved l (pair a b)) (resolved l (pair c d)) (place_kept l a b alias tt e)
     (let P : Term → Type 0 = λ z. MayDifferFrom (resolved l (pair a b)) z in subst P (sym (resolved_pair l c d)) tt))
 pair_outside_agree unknown_type l a b c d n e =
-    differ_agree (resolved l (pair a b)) (resolved l (pair c d)) (unknown_type_differs (resolved l (pair a b)) (resolved l (pair c d)) (place_kept l a b unknown_type tt e))
+    differ_agree (resolved l (pair a b)) (resolved l (pair c d))
+    (unknown_type_differs (resolved l (pair a b)) (resolved l (pair c d)) (place_kept l a b unknown_type tt e))
 pair_outside_agree unknown_const l a b c d n e =
-    differ_agree (resolved l (pair a b)) (resolved l (pair c d)) (unknown_const_differs (resolved l (pair a b)) (resolved l (pair c d)) (place_kept l a b unknown_const tt e))
+    differ_agree (resolved l (pair a b)) (resolved l (pair c d))
+    (unknown_const_differs (resolved l (pair a b)) (resolved l (pair c d)) (place_kept l a b unknown_const tt e))
 
 -- two terms agree once their opened terms resolve to one
 abbrev OpenAgree : Log → Term → Term → Type 0
-OpenAgree l a b = (n m : ℕ) → resolved l (opened n a).0 ≡ resolved l (opened m b).0 → AreSettled l (origins n a) → AreSettled l (origins m b) → Agree (resolved l a) (resolved l b)
+OpenAgree l a b = (n m : ℕ) → resolved l (opened n a).0 ≡ resolved l (opened m b).0 → AreSettled l (origins n a)
+    → AreSettled l (origins m b) → Agree (resolved l a) (resolved l b)
 
-pairs_open_agree : (p q : Place) (l : Log) (n m : ℕ) (a b c d : Term) → place (pair a b) ≡ p → place (pair c d) ≡ q → OpenAgree l a c → OpenAgree l b d → resolved l (opened_at p n a b).0 ≡ resolved l (opened_at q m c d).0 → AreSettled l (origins_at p n a b) → AreSettled l (origins_at q m c d) → Agree (resolved l (pair a b)) (resolved l (pair c d))
+pairs_open_agree : (p q : Place) (l : Log) (n m : ℕ) (a b c d : Term) → place (pair a b) ≡ p → place (pair c d) ≡ q → OpenAgree l a c
+    → OpenAgree l b d → resolved l (opened_at p n a b).0 ≡ resolved l (opened_at q m c d).0 → AreSettled l (origins_at p n a b)
+    → AreSettled l (origins_at q m c d) → Agree (resolved l (pair a b)) (resolved l (pair c d))
 pairs_open_agree plain plain l n m a b c d e f i j h s t =
-    let g = sym (resolved_pair l (opened n a).0 (opened (opened n a).1 b).0) ∙ h ∙ resolved_pair l (opened m c).0 (opened (opened m c).1 d).0 in
+    let g = sym (resolved_pair l (opened n a).0 (opened (opened n a).1 b).0) ∙ h ∙ resolved_pair l (opened m c).0
+    (opened (opened m c).1 d).0 in
     rw (resolved_pair l a b) (rw (resolved_pair l c d)
     (pairs_agree (resolved l a) (resolved l b) (resolved l c) (resolved l d)
-    (i n m (pair_left g) (settled_left l (origins n a) (origins (opened n a).1 b) s) (settled_left l (origins m c) (origins (opened m c).1 d) t))
-    (j (opened n a).1 (opened m c).1 (pair_right g) (settled_right l (origins n a) (origins (opened n a).1 b) s) (settled_right l (origins m c) (origins (opened m c).1 d) t))))
-pairs_open_agree plain alias l n m a b c d e f i j h s t = agree_flip (resolved l (pair c d)) (resolved l (pair a b)) (pair_outside_agree alias l c d a b tt f)
-pairs_open_agree plain unknown_type l n m a b c d e f i j h s t = agree_flip (resolved l (pair c d)) (resolved l (pair a b)) (pair_outside_agree unknown_type l c d a b tt f)
-pairs_open_agree plain unknown_const l n m a b c d e f i j h s t = agree_flip (resolved l (pair c d)) (resolved l (pair a b)) (pair_outside_agree unknown_const l c d a b tt f)
+    (i n m (pair_left g) (settled_left l (origins n a) (origins (opened n a).1 b) s)
+    (settled_left l (origins m c) (origins (opened m c).1 d) t))
+    (j (opened n a).1 (opened m c).1 (pair_right g) (settled_right l (origins n a) (origins (opened n a).1 b) s)
+    (settled_right l (origins m c) (origins (opened m c).1 d) t))))
+pairs_open_agree plain alias l n m a b c d e f i j h s t =
+    agree_flip (resolved l (pair c d)) (resolved l (pair a b)) (pair_outside_agree alias l c d a b tt f)
+pairs_open_agree plain unknown_type l n m a b c d e f i j h s t =
+    agree_flip (resolved l (pair c d)) (resolved l (pair a b)) (pair_outside_agree unknown_type l c d a b tt f)
+pairs_open_agree plain unknown_const l n m a b c d e f i j h s t =
+    agree_flip (resolved l (pair c d)) (resolved l (pair a b)) (pair_outside_agree unknown_const l c d a b tt f)
 pairs_open_agree alias q l n m a b c d e f i j h s t = pair_outside_agree alias l a b c d tt e
 pairs_open_agree unknown_type q l n m a b c d e f i j h s t = pair_outside_agree unknown_type l a b c d tt e
 pairs_open_agree unknown_const q l n m a b c d e f i j h s t = pair_outside_agree unknown_const l a b c d tt e
 
-agree_to : (l : Log) (m : ℕ) (a b : Term) → resolved l a ≡ resolved l (opened m b).0 → AreSettled l (origins m b) → Agree (resolved l a) (resolved l b)
+agree_to : (l : Log) (m : ℕ) (a b : Term) → resolved l a ≡ resolved l (opened m b).0 → AreSettled l (origins m b)
+    → Agree (resolved l a) (resolved l b)
 agree_to l m a b h t = let P : Term → Type 0 = λ z. Agree z (resolved l b) in subst P (sym h) (self_agree l m b t)
 
-pub opened_agree : (l : Log) (n m : ℕ) (a b : Term) → resolved l (opened n a).0 ≡ resolved l (opened m b).0 → AreSettled l (origins n a) → AreSettled l (origins m b) → Agree (resolved l a) (resolved l b)
+pub opened_agree : (l : Log) (n m : ℕ) (a b : Term) → resolved l (opened n a).0 ≡ resolved l (opened m b).0 → AreSettled l (origins n a)
+    → AreSettled l (origins m b) → Agree (resolved l a) (resolved l b)
 opened_agree l n m (hole k) b h s t = agree_to l m (hole k) b h t
 opened_agree l n m (leaf k) b h s t = agree_to l m (leaf k) b h t
-opened_agree l n m (pair a c) (hole k) h s t = agree_flip (resolved l (hole k)) (resolved l (pair a c)) (agree_to l n (hole k) (pair a c) (sym h) s)
-opened_agree l n m (pair a c) (leaf k) h s t = agree_flip (resolved l (leaf k)) (resolved l (pair a c)) (agree_to l n (leaf k) (pair a c) (sym h) s)
+opened_agree l n m (pair a c) (hole k) h s t =
+    agree_flip (resolved l (hole k)) (resolved l (pair a c)) (agree_to l n (hole k) (pair a c) (sym h) s)
+opened_agree l n m (pair a c) (leaf k) h s t =
+    agree_flip (resolved l (leaf k)) (resolved l (pair a c)) (agree_to l n (leaf k) (pair a c) (sym h) s)
 opened_agree l n m (pair a c) (pair b d) h s t =
-    pairs_open_agree (place (pair a c)) (place (pair b d)) l n m a c b d refl refl (λ i j. opened_agree l i j a b) (λ i j. opened_agree l i j c d) h s t
+    pairs_open_agree (place (pair a c)) (place (pair b d)) l n m a c b d refl refl (λ i j. opened_agree l i j a b)
+    (λ i j. opened_agree l i j c d) h s t
 
 -- ---- settled stays settled
 
@@ -201,7 +226,8 @@ occurs_stays y x u (pair a b) e h = elim (or_cases (occurs y a) (occurs y b) h) 
   | inr p ↦ or_right (occurs y (sub x u a)) (occurs y (sub x u b)) (occurs_stays y x u b e p)
 ]
 
-settled_hole : (x : Hole) (u a : Term) (n : ℕ) (b : Bool) → hole_eq x (hole_of.Ty n) ≡ b → IsNoTypeHole u → occurs (hole_of.Ty n) a ≡ true → MayDifferFrom (sub x u a) (cond b u (hole (hole_of.Ty n)))
+settled_hole : (x : Hole) (u a : Term) (n : ℕ) (b : Bool) → hole_eq x (hole_of.Ty n) ≡ b → IsNoTypeHole u → occurs (hole_of.Ty n) a ≡ true
+    → MayDifferFrom (sub x u a) (cond b u (hole (hole_of.Ty n)))
 settled_hole x u a n true e h o = differs_from (sub x u a) u h
 settled_hole x u a n false e h o = occurs_stays (hole_of.Ty n) x u a e o
 
@@ -225,12 +251,14 @@ settled_more l x u p h d =
     rw (resolved_append l ((x, u) ∷ []) p.1) (rw (resolved_append l ((x, u) ∷ []) (hole (hole_of.Ty p.0)))
     (differs_sub x u (resolved l p.1) (resolved l (hole (hole_of.Ty p.0))) h d))
 
-pub settled_all_more : (l : Log) (x : Hole) (u : Term) (ps : List (ℕ × Term)) → IsNoTypeHole u → AreSettled l ps → AreSettled (l ++ (x, u) ∷ []) ps
+pub settled_all_more : (l : Log) (x : Hole) (u : Term) (ps : List (ℕ × Term)) → IsNoTypeHole u → AreSettled l ps
+    → AreSettled (l ++ (x, u) ∷ []) ps
 settled_all_more l x u [] h d = tt
 settled_all_more l x u (p ∷ ps) h d = (settled_more l x u p h d.0, settled_all_more l x u ps h d.1)
 
 -- and the hole that is bound is settled by it
-pub settled_bound : (l : Log) (k : ℕ) (u : Term) (p : ℕ × Term) → IsNoTypeHole u → resolved l (hole (hole_of.Ty p.0)) ≡ hole (hole_of.Ty k) → IsSettled (l ++ (hole_of.Ty k, u) ∷ []) p
+pub settled_bound : (l : Log) (k : ℕ) (u : Term) (p : ℕ × Term) → IsNoTypeHole u → resolved l (hole (hole_of.Ty p.0)) ≡ hole (hole_of.Ty k)
+    → IsSettled (l ++ (hole_of.Ty k, u) ∷ []) p
 settled_bound l k u p h e =
     differs_from (resolved (l ++ (hole_of.Ty k, u) ∷ []) p.1) (resolved (l ++ (hole_of.Ty k, u) ∷ []) (hole (hole_of.Ty p.0)))
     (rw (resolved_append l ((hole_of.Ty k, u) ∷ []) (hole (hole_of.Ty p.0))) (rw e (rw (eq-eqb k k refl) h)))
@@ -254,5 +282,6 @@ settle_step l k t e = let h = alias_no_hole (resolved l t) (alias_resolved l t e
 pub settled_here : (l : Log) (p : ℕ × Term) → IsNoTypeHole (resolved l (hole (hole_of.Ty p.0))) → IsSettled l p
 settled_here l p h = differs_from (resolved l p.1) (resolved l (hole (hole_of.Ty p.0))) h
 
-pub settled_inside : (l : Log) (p : ℕ × Term) (k : ℕ) → resolved l (hole (hole_of.Ty p.0)) ≡ hole (hole_of.Ty k) → occurs (hole_of.Ty k) (resolved l p.1) ≡ true → IsSettled l p
+pub settled_inside : (l : Log) (p : ℕ × Term) (k : ℕ) → resolved l (hole (hole_of.Ty p.0)) ≡ hole (hole_of.Ty k)
+    → occurs (hole_of.Ty k) (resolved l p.1) ≡ true → IsSettled l p
 settled_inside l p k e h = let P : Term → Type 0 = λ z. MayDifferFrom (resolved l p.1) z in subst P (sym e) h

@@ -18,7 +18,8 @@ below_of kinds t h k o = slice_get_within kinds (hole_number k) (hole_kind k) (h
 
 pub log_below_of : (kinds : List HoleKind) (l : Log) → BindsOf kinds l → LogIsBelow (length kinds) l
 log_below_of kinds [] h = tt
-log_below_of kinds (p ∷ l) h = (slice_get_within kinds (hole_number p.0) (hole_kind p.0) h.0, below_of kinds p.1 h.1, log_below_of kinds l h.2)
+log_below_of kinds (p ∷ l) h =
+    (slice_get_within kinds (hole_number p.0) (hole_kind p.0) h.0, below_of kinds p.1 h.1, log_below_of kinds l h.2)
 
 -- ---- the new holes
 
@@ -48,9 +49,11 @@ OriginsOf kinds (p ∷ ps) = IsOf kinds (hole_of.Ty p.0) × AreOf kinds p.1 × O
 
 pub origins_of_more : (kinds more : List HoleKind) (ps : List (ℕ × Term)) → OriginsOf kinds ps → OriginsOf (kinds ++ more) ps
 origins_of_more kinds more [] h = tt
-origins_of_more kinds more (p ∷ ps) h = (is_of_more kinds more (hole_of.Ty p.0) h.0, are_of_more kinds more p.1 h.1, origins_of_more kinds more ps h.2)
+origins_of_more kinds more (p ∷ ps) h =
+    (is_of_more kinds more (hole_of.Ty p.0) h.0, are_of_more kinds more p.1 h.1, origins_of_more kinds more ps h.2)
 
-pub origins_of_append : (kinds : List HoleKind) (ps qs : List (ℕ × Term)) → OriginsOf kinds ps → OriginsOf kinds qs → OriginsOf kinds (ps ++ qs)
+pub origins_of_append : (kinds : List HoleKind) (ps qs : List (ℕ × Term)) → OriginsOf kinds ps → OriginsOf kinds qs
+    → OriginsOf kinds (ps ++ qs)
 origins_of_append kinds [] qs h g = g
 origins_of_append kinds (p ∷ ps) qs h g = (h.0, h.1, origins_of_append kinds ps qs h.2 g)
 
@@ -79,9 +82,11 @@ append_none [] = refl
 append_none (x ∷ a) = ap (λ (z : List HoleKind). x ∷ z) (append_none a)
 
 abbrev OpensOf : Term → Type 0
-OpensOf t = (kinds : List HoleKind) (n : ℕ) → n ≡ length kinds → AreOf kinds t → OpenedOf (kinds ++ new_kinds t) (opened n t).0 (opened n t).1 (origins n t)
+OpensOf t = (kinds : List HoleKind) (n : ℕ) → n ≡ length kinds → AreOf kinds t
+    → OpenedOf (kinds ++ new_kinds t) (opened n t).0 (opened n t).1 (origins n t)
 
-opened_of_at : (p : Place) (a b : Term) → OpensOf a → OpensOf b → (kinds : List HoleKind) (n : ℕ) → n ≡ length kinds → AreOf kinds (pair a b) → OpenedOf (kinds ++ new_kinds_at p a b) (opened_at p n a b).0 (opened_at p n a b).1 (origins_at p n a b)
+opened_of_at : (p : Place) (a b : Term) → OpensOf a → OpensOf b → (kinds : List HoleKind) (n : ℕ) → n ≡ length kinds
+    → AreOf kinds (pair a b) → OpenedOf (kinds ++ new_kinds_at p a b) (opened_at p n a b).0 (opened_at p n a b).1 (origins_at p n a b)
 opened_of_at plain a b f g kinds n e h =
     let parts = are_of_parts kinds a b h in
     let x = f kinds n e parts.0 in
@@ -111,7 +116,8 @@ opened_of_at unknown_const a b f g kinds n e h = record {
 }
 
 -- with the new holes made, each hole of the opened term is one that was made
-pub opened_of : (t : Term) (kinds : List HoleKind) (n : ℕ) → n ≡ length kinds → AreOf kinds t → OpenedOf (kinds ++ new_kinds t) (opened n t).0 (opened n t).1 (origins n t)
+pub opened_of : (t : Term) (kinds : List HoleKind) (n : ℕ) → n ≡ length kinds → AreOf kinds t
+    → OpenedOf (kinds ++ new_kinds t) (opened n t).0 (opened n t).1 (origins n t)
 opened_of (hole k) kinds n e h = record { number = e ∙ ap length (append_none kinds); term = are_of_more kinds [] (hole k) h; origins = tt }
 opened_of (leaf a) kinds n e h = record { number = e ∙ ap length (append_none kinds); term = are_of_more kinds [] (leaf a) h; origins = tt }
 opened_of (pair a b) kinds n e h = opened_of_at (place (pair a b)) a b (opened_of a) (opened_of b) kinds n e h

@@ -45,14 +45,16 @@ opened_plain n (hole k) h = refl
 opened_plain n (leaf k) h = refl
 opened_plain n (pair a b) h = plain_pair n a b (place (pair a b)) h.0 (opened_plain n a h.1) (opened_plain n b h.2)
 
-plain_origins_pair : (n : ℕ) (a b : Term) (p : Place) → p ≡ plain → opened n a ≡ (a, n) → origins n a ≡ [] → origins n b ≡ [] → origins_at p n a b ≡ []
+plain_origins_pair : (n : ℕ) (a b : Term) (p : Place) → p ≡ plain → opened n a ≡ (a, n) → origins n a ≡ [] → origins n b ≡ []
+    → origins_at p n a b ≡ []
 plain_origins_pair n a b p e f g h = let P : Place → Type 0 = λ z. origins_at z n a b ≡ [] in
     subst P (sym e) (rw f (rw g (rw h refl)))
 
 pub origins_plain : (n : ℕ) (t : Term) → IsPlain t → origins n t ≡ []
 origins_plain n (hole k) h = refl
 origins_plain n (leaf k) h = refl
-origins_plain n (pair a b) h = plain_origins_pair n a b (place (pair a b)) h.0 (opened_plain n a h.1) (origins_plain n a h.1) (origins_plain n b h.2)
+origins_plain n (pair a b) h =
+    plain_origins_pair n a b (place (pair a b)) h.0 (opened_plain n a h.1) (origins_plain n a h.1) (origins_plain n b h.2)
 
 -- ---- an opened term is plain
 
@@ -81,12 +83,14 @@ pub record OpenedBounds (n : ℕ) (t u : Term) (m : ℕ) (ps : List (ℕ × Term
   pub holes : (k : Hole) → occurs k u ≡ true → (occurs k t ≡ true) ⊎ IsFresh n m k
   pub origins : AreOrigins n m t ps
 
-origins_wider : (low high low2 high2 : ℕ) (t u : Term) (ps : List (ℕ × Term)) → low2 ≤ low → high ≤ high2 → ((k : Hole) → occurs k t ≡ true → occurs k u ≡ true) → AreOrigins low high t ps → AreOrigins low2 high2 u ps
+origins_wider : (low high low2 high2 : ℕ) (t u : Term) (ps : List (ℕ × Term)) → low2 ≤ low → high ≤ high2
+    → ((k : Hole) → occurs k t ≡ true → occurs k u ≡ true) → AreOrigins low high t ps → AreOrigins low2 high2 u ps
 origins_wider low high low2 high2 t u [] e f g h = tt
 origins_wider low high low2 high2 t u (p ∷ ps) e f g h =
     (omega (arith, h.0), omega (arith, h.1), h.2, (λ k o. g k (h.3 k o)), origins_wider low high low2 high2 t u ps e f g h.4)
 
-origins_append : (low high : ℕ) (t : Term) (ps qs : List (ℕ × Term)) → AreOrigins low high t ps → AreOrigins low high t qs → AreOrigins low high t (ps ++ qs)
+origins_append : (low high : ℕ) (t : Term) (ps qs : List (ℕ × Term)) → AreOrigins low high t ps → AreOrigins low high t qs
+    → AreOrigins low high t (ps ++ qs)
 origins_append low high t [] qs h g = g
 origins_append low high t (p ∷ ps) qs h g = (h.0, h.1, h.2, h.3, origins_append low high t ps qs h.4 g)
 
@@ -101,7 +105,10 @@ fresh_const : (n : ℕ) (k : Hole) → hole_eq k (hole_of.Const n) ≡ true → 
 fresh_const n k e = let P : Hole → Type 0 = λ z. IsFresh n (n + 1) z in
     subst P (sym (hole_eq_true k (hole_of.Const n) e)) (omega arith, omega arith, (λ h. h))
 
-bounds_at : (p : Place) (n : ℕ) (a b : Term) → place (pair a b) ≡ p → ((m : ℕ) → OpenedBounds m a (opened m a).0 (opened m a).1 (origins m a)) → ((m : ℕ) → OpenedBounds m b (opened m b).0 (opened m b).1 (origins m b)) → OpenedBounds n (pair a b) (opened_at p n a b).0 (opened_at p n a b).1 (origins_at p n a b)
+bounds_at : (p : Place) (n : ℕ) (a b : Term) → place (pair a b) ≡ p
+    → ((m : ℕ) → OpenedBounds m a (opened m a).0 (opened m a).1 (origins m a))
+    → ((m : ℕ) → OpenedBounds m b (opened m b).0 (opened m b).1 (origins m b))
+    → OpenedBounds n (pair a b) (opened_at p n a b).0 (opened_at p n a b).1 (origins_at p n a b)
 bounds_at plain n a b e f g = let x = f n in let y = g (opened n a).1 in let i = x.grows in let j = y.grows in record {
   grows = omega arith;
   holes = λ k o. elim (or_cases (occurs k (opened n a).0) (occurs k (opened (opened n a).1 b).0) o) [
@@ -115,8 +122,10 @@ bounds_at plain n a b e f g = let x = f n in let y = g (opened n a).1 in let i =
     ]
   ];
   origins = origins_append n (opened (opened n a).1 b).1 (pair a b) (origins n a) (origins (opened n a).1 b)
-      (origins_wider n (opened n a).1 n (opened (opened n a).1 b).1 a (pair a b) (origins n a) (omega arith) j (λ k o. or_left (occurs k a) (occurs k b) o) x.origins)
-      (origins_wider (opened n a).1 (opened (opened n a).1 b).1 n (opened (opened n a).1 b).1 b (pair a b) (origins (opened n a).1 b) i (omega arith) (λ k o. or_right (occurs k a) (occurs k b) o) y.origins);
+      (origins_wider n (opened n a).1 n (opened (opened n a).1 b).1 a (pair a b) (origins n a) (omega arith) j
+      (λ k o. or_left (occurs k a) (occurs k b) o) x.origins)
+      (origins_wider (opened n a).1 (opened (opened n a).1 b).1 n (opened (opened n a).1 b).1 b (pair a b) (origins (opened n a).1 b) i
+      (omega arith) (λ k o. or_right (occurs k a) (occurs k b) o) y.origins);
 }
 bounds_at alias n a b e f g = record {
   grows = omega arith;
@@ -159,7 +168,8 @@ opened_below n t h k o = let b = opened_bounds n t in let g = b.grows in
 abbrev pub SameBut : ℕ → ℕ → (Hole → Term) → (Hole → Term) → Type 0
 SameBut low high s z = (k : Hole) → (hole_number k < low) ⊎ (high ≤ hole_number k) → z k ≡ s k
 
-reads_same_at : (p : Place) (s z : Hole → Term) (a b u : Term) → ((v : Term) → IsReadAs s a v → IsReadAs z a v) → ((w : Term) → IsReadAs s b w → IsReadAs z b w) → Reads_at p s a b u → Reads_at p z a b u
+reads_same_at : (p : Place) (s z : Hole → Term) (a b u : Term) → ((v : Term) → IsReadAs s a v → IsReadAs z a v)
+    → ((w : Term) → IsReadAs s b w → IsReadAs z b w) → Reads_at p s a b u → Reads_at p z a b u
 reads_same_at plain s z a b u f g h = (h.0, h.1, h.2, f h.0 h.3, g h.1 h.4)
 reads_same_at alias s z a b u f g h = tt
 reads_same_at unknown_type s z a b u f g h = tt
@@ -172,14 +182,22 @@ reads_same s z (pair a b) u f h = reads_same_at (place (pair a b)) s z a b u
     (λ v. reads_same s z a v (λ k o. f k (or_left (occurs k a) (occurs k b) o)))
     (λ w. reads_same s z b w (λ k o. f k (or_right (occurs k a) (occurs k b) o))) h
 
-pub solves_same : (s z : Hole → Term) (n : ℕ) (l : Log) → LogIsBelow n l → ((k : Hole) → hole_number k < n → z k ≡ s k) → Solves s l → Solves z l
+pub solves_same : (s z : Hole → Term) (n : ℕ) (l : Log) → LogIsBelow n l → ((k : Hole) → hole_number k < n → z k ≡ s k) → Solves s l
+    → Solves z l
 solves_same s z n [] b f h = tt
 solves_same s z n (p ∷ l) b f h =
     (f p.0 b.0 ∙ h.0 ∙ sym (apply_agree z s p.1 (λ k o. f k (b.1 k o))), solves_same s z n l b.2 f h.1)
 
-reads_apply_at : (p : Place) (s : Hole → Term) (n : ℕ) (a b u : Term) → ((m : ℕ) (v : Term) → apply s (opened m a).0 ≡ v → IsReadAs s a v) → ((m : ℕ) (w : Term) → apply s (opened m b).0 ≡ w → IsReadAs s b w) → apply s (opened_at p n a b).0 ≡ u → Reads_at p s a b u
-reads_apply_at plain s n a b u f g e =
-    (apply s (opened n a).0, apply s (opened (opened n a).1 b).0, sym e, f n (apply s (opened n a).0) refl, g (opened n a).1 (apply s (opened (opened n a).1 b).0) refl)
+reads_apply_at : (p : Place) (s : Hole → Term) (n : ℕ) (a b u : Term) → ((m : ℕ) (v : Term) → apply s (opened m a).0 ≡ v → IsReadAs s a v)
+    → ((m : ℕ) (w : Term) → apply s (opened m b).0 ≡ w → IsReadAs s b w) → apply s (opened_at p n a b).0 ≡ u → Reads_at p s a b u
+reads_apply_at plain s n a b u f g e = (
+  apply s (opened n a).0,
+  apply s (opened (opened n a).1 b).0,
+  sym e,
+  f n (apply s (opened n a).0) refl,
+  g (opened n a).1
+      (apply s (opened (opened n a).1 b).0) refl,
+)
 reads_apply_at alias s n a b u f g e = tt
 reads_apply_at unknown_type s n a b u f g e = tt
 reads_apply_at unknown_const s n a b u f g e = tt
@@ -220,7 +238,10 @@ fills_const n s u = (
     keeps r (hole_of.Int m) h = r (hole_of.Int m) h
     keeps r (hole_of.Const m) h = absurd h
 
-fills_at : (p : Place) (n : ℕ) (s : Hole → Term) (a b u : Term) → IsBelow n a → IsBelow n b → ((m : ℕ) (z : Hole → Term) (v : Term) → IsBelow m a → IsReadAs z a v → Fills m (opened m a).1 z (opened m a).0 v) → ((m : ℕ) (z : Hole → Term) (w : Term) → IsBelow m b → IsReadAs z b w → Fills m (opened m b).1 z (opened m b).0 w) → Reads_at p s a b u → Fills n (opened_at p n a b).1 s (opened_at p n a b).0 u
+fills_at : (p : Place) (n : ℕ) (s : Hole → Term) (a b u : Term) → IsBelow n a → IsBelow n b
+    → ((m : ℕ) (z : Hole → Term) (v : Term) → IsBelow m a → IsReadAs z a v → Fills m (opened m a).1 z (opened m a).0 v)
+    → ((m : ℕ) (z : Hole → Term) (w : Term) → IsBelow m b → IsReadAs z b w → Fills m (opened m b).1 z (opened m b).0 w)
+    → Reads_at p s a b u → Fills n (opened_at p n a b).1 s (opened_at p n a b).0 u
 fills_at plain n s a b u i j f g h =
     let x = opened_bounds n a in
     let y = opened_bounds (opened n a).1 b in
@@ -249,7 +270,9 @@ reads_fills n s (pair a b) u i h = fills_at (place (pair a b)) n s a b u
     (λ m z v. reads_fills m z a v) (λ m z w. reads_fills m z b w) h
 
 -- two terms with a reading in common are made equal by what stands for the new holes
-pub reads_both : (n : ℕ) (s : Hole → Term) (a b u : Term) → IsBelow n a → IsBelow n b → IsReadAs s a u → IsReadAs s b u → (z : Hole → Term) × ((k : Hole) → hole_number k < n → z k ≡ s k) × (Respects s → Respects z) × (apply z (opened n a).0 ≡ apply z (opened (opened n a).1 b).0)
+pub reads_both : (n : ℕ) (s : Hole → Term) (a b u : Term) → IsBelow n a → IsBelow n b → IsReadAs s a u → IsReadAs s b u → (z : Hole → Term)
+    × ((k : Hole) → hole_number k < n → z k ≡ s k) × (Respects s → Respects z)
+    × (apply z (opened n a).0 ≡ apply z (opened (opened n a).1 b).0)
 reads_both n s a b u i j f g =
     let x = opened_bounds n a in
     let xg = x.grows in
@@ -262,7 +285,9 @@ reads_both n s a b u i j f g =
     )
 
 -- where the opened terms cannot be made equal, the two have no reading in common
-pub none_reads : (n : ℕ) (l : Log) (a b : Term) → IsBelow n a → IsBelow n b → LogIsBelow n l → NoneUnifies l (opened n a).0 (opened (opened n a).1 b).0 → (s : Hole → Term) (u : Term) → Respects s → Solves s l → IsReadAs s a u → IsReadAs s b u → ⊥
+pub none_reads : (n : ℕ) (l : Log) (a b : Term) → IsBelow n a → IsBelow n b → LogIsBelow n l
+    → NoneUnifies l (opened n a).0 (opened (opened n a).1 b).0 → (s : Hole → Term) (u : Term) → Respects s → Solves s l → IsReadAs s a u
+    → IsReadAs s b u → ⊥
 none_reads n l a b i j k none s u r h f g =
     let d = reads_both n s a b u i j f g in
     none d.0 (d.2 r) (solves_same s d.0 n l k d.1 h) d.3

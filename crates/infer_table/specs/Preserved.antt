@@ -89,7 +89,8 @@ mark_apply s (pair a b) h = absurd h
 pub made_of_apply : (ok : Shape) (s : Hole → Term) (r : TermRole) (t : Term) → AreMadeOf ok s → IsMadeOf ok r t → IsMadeOf ok r (apply s t)
 made_of_apply ok s whole (hole k) f h = f k
 made_of_apply ok s whole (leaf g) f h = absurd h
-made_of_apply ok s whole (pair a b) f h = (head_apply ok s a (width (apply s b)) (width b) (width_apply ok s b h.1) h.0, made_of_apply ok s rest b f h.1)
+made_of_apply ok s whole (pair a b) f h =
+    (head_apply ok s a (width (apply s b)) (width b) (width_apply ok s b h.1) h.0, made_of_apply ok s rest b f h.1)
 made_of_apply ok s part (hole k) f h = absurd h
 made_of_apply ok s part (leaf g) f h = absurd h
 made_of_apply ok s part (pair a b) f h = (mark_apply s a h.0, made_of_apply ok s whole b f h.1)
@@ -140,7 +141,8 @@ mark_within ok s (hole k) f h = absurd (mark_is_none ok (s k) (f k) h)
 mark_within ok s (leaf g) f h = h
 mark_within ok s (pair a b) f h = absurd h
 
-pub made_of_within : (ok : Shape) (s : Hole → Term) (r : TermRole) (t : Term) → NoMark ok → AreMadeOf ok s → IsMadeOf ok r (apply s t) → IsMadeOf ok r t
+pub made_of_within : (ok : Shape) (s : Hole → Term) (r : TermRole) (t : Term) → NoMark ok → AreMadeOf ok s → IsMadeOf ok r (apply s t)
+    → IsMadeOf ok r t
 made_of_within ok s whole (hole k) m f h = tt
 made_of_within ok s whole (leaf g) m f h = absurd h
 made_of_within ok s whole (pair a b) m f h =
@@ -251,11 +253,13 @@ width_only ok h (hole k) = refl
 width_only ok h (leaf g) = refl
 width_only ok h (pair a b) = ap suc (width_only ok h b)
 
-over_made : (ok : Shape) (h g : Head) (b kept : Term) (v : Bool) → ok g (width b) ≡ v → IsTrue (ok h 0) → width kept ≡ width b → IsMadeOf ok rest kept → IsMadeOf ok whole (cond v (pair (leaf g) kept) (bare h))
+over_made : (ok : Shape) (h g : Head) (b kept : Term) (v : Bool) → ok g (width b) ≡ v → IsTrue (ok h 0) → width kept ≡ width b
+    → IsMadeOf ok rest kept → IsMadeOf ok whole (cond v (pair (leaf g) kept) (bare h))
 over_made ok h g b kept true e i w k = (ap (ok g) w ∙ e, k)
 over_made ok h g b kept false e i w k = (i, tt)
 
-over_is_made : (ok : Shape) (h : Head) (a b kept : Term) → IsTrue (ok h 0) → width kept ≡ width b → IsMadeOf ok rest kept → IsMadeOf ok whole (only_over ok h a b kept)
+over_is_made : (ok : Shape) (h : Head) (a b kept : Term) → IsTrue (ok h 0) → width kept ≡ width b → IsMadeOf ok rest kept
+    → IsMadeOf ok whole (only_over ok h a b kept)
 over_is_made ok h (hole k) b kept i w m = (i, tt)
 over_is_made ok h (leaf g) b kept i w m = over_made ok h g b kept (ok g (width b)) refl i w m
 over_is_made ok h (pair a c) b kept i w m = (i, tt)
@@ -277,7 +281,8 @@ end_is : (g : Head) → IsEnd g → leaf head.End ≡ leaf g
 end_is head.End h = refl
 end_is _ h = absurd h
 
-over_apply : (ok : Shape) (h : Head) (s : Hole → Term) (a b c kept : Term) (n : ℕ) → width b ≡ n → IsHead ok a n → only_over ok h (apply s a) b kept ≡ pair (apply s a) kept
+over_apply : (ok : Shape) (h : Head) (s : Hole → Term) (a b c kept : Term) (n : ℕ) → width b ≡ n → IsHead ok a n
+    → only_over ok h (apply s a) b kept ≡ pair (apply s a) kept
 over_apply ok h s (hole k) b c kept n w i = absurd i
 over_apply ok h s (leaf g) b c kept n w i = ap (λ (v : Bool). cond v (pair (leaf g) kept) (bare h)) (ap (ok g) w ∙ i)
 over_apply ok h s (pair a d) b c kept n w i = absurd i
@@ -293,7 +298,8 @@ mark_apply_same z (leaf head.TypePart) i = refl
 mark_apply_same z (leaf _) i = absurd i
 mark_apply_same z (pair a b) i = absurd i
 
-only_apply : (ok : Shape) (h : Head) (s : Hole → Term) (r : TermRole) (t : Term) → IsMadeOf ok r t → only ok h r (apply s t) ≡ apply (λ k. only ok h whole (s k)) t
+only_apply : (ok : Shape) (h : Head) (s : Hole → Term) (r : TermRole) (t : Term) → IsMadeOf ok r t
+    → only ok h r (apply s t) ≡ apply (λ k. only ok h whole (s k)) t
 only_apply ok h s whole (hole k) i = refl
 only_apply ok h s whole (leaf g) i = absurd i
 only_apply ok h s whole (pair a b) i =
@@ -322,7 +328,8 @@ solved_only ok s (p ∷ l) m f g =
 
 -- ---- unification of types of these heads
 
-pub made_of_resolved_term : (ok : Shape) (state : State) (t : Ty) → BindsOnly ok (log_of (bindings state)) → IsMadeOf ok whole (term t) → IsMadeOf ok whole (resolved_term state t)
+pub made_of_resolved_term : (ok : Shape) (state : State) (t : Ty) → BindsOnly ok (log_of (bindings state)) → IsMadeOf ok whole (term t)
+    → IsMadeOf ok whole (resolved_term state t)
 made_of_resolved_term ok state t h g =
     let P : Term → Type 0 = IsMadeOf ok whole in
     subst P (sym (resolution_term (bindings state) t)) (made_of_resolved ok (log_of (bindings state)) (term t) h g)
@@ -338,17 +345,22 @@ meets_before before after a b u s m =
     let more = u.grown.log.0 in
     solves_left s (log_of (bindings before)) (log_of more) (subst Q (map-append _ (bindings before) more) (subst P u.grown.log.1 m))
 
-most_general_of : (ok : Shape) → NoAlias ok → (before after : State) (a b : Ty) → AreUnified before after a b → BindsOnly ok (log_of (bindings before)) → IsMadeOf ok whole (term a) → IsMadeOf ok whole (term b) → IsMostGeneral before after a b
+most_general_of : (ok : Shape) → NoAlias ok → (before after : State) (a b : Ty) → AreUnified before after a b
+    → BindsOnly ok (log_of (bindings before)) → IsMadeOf ok whole (term a) → IsMadeOf ok whole (term b) → IsMostGeneral before after a b
 most_general_of ok n before after a b u h i j = u.most_general
     (plain_of ok n (resolved_term before a) (made_of_resolved_term ok before a h i))
     (plain_of ok n (resolved_term before b) (made_of_resolved_term ok before b h j))
 
 -- each assignment that meets the state after makes the two equal
-pub unified_makes_same : (ok : Shape) (before after : State) (a b : Ty) → NoAlias ok → BindsOnly ok (log_of (bindings before)) → IsMadeOf ok whole (term a) → IsMadeOf ok whole (term b) → AreUnified before after a b → (s : Hole → Term) → Meets s after → apply s (term a) ≡ apply s (term b)
+pub unified_makes_same : (ok : Shape) (before after : State) (a b : Ty) → NoAlias ok → BindsOnly ok (log_of (bindings before))
+    → IsMadeOf ok whole (term a) → IsMadeOf ok whole (term b) → AreUnified before after a b → (s : Hole → Term) → Meets s after
+    → apply s (term a) ≡ apply s (term b)
 unified_makes_same ok before after a b n h i j u s m = (most_general_of ok n before after a b u h i j).unifies s m
 
 -- holes are bound to heads of the two types and of earlier bindings alone
-pub binds_only_unified : (ok : Shape) → NoAlias ok → (h : Head) → IsTrue (ok h 0) → (before after : State) (a b : Ty) → AreUnified before after a b → (s : Hole → Term) → Meets s after → BindsOnly ok (log_of (bindings before)) → IsMadeOf ok whole (term a) → IsMadeOf ok whole (term b) → BindsOnly ok (log_of (bindings after))
+pub binds_only_unified : (ok : Shape) → NoAlias ok → (h : Head) → IsTrue (ok h 0) → (before after : State) (a b : Ty)
+    → AreUnified before after a b → (s : Hole → Term) → Meets s after → BindsOnly ok (log_of (bindings before))
+    → IsMadeOf ok whole (term a) → IsMadeOf ok whole (term b) → BindsOnly ok (log_of (bindings after))
 binds_only_unified ok n h e before after a b u s m i j k =
     let most = most_general_of ok n before after a b u i j k in
     let z : Hole → Term = λ x. only ok h whole (s x) in
@@ -357,10 +369,20 @@ binds_only_unified ok n h e before after a b u s m i j k =
     solved_only ok z (log_of (bindings after)) n.no_mark (λ x. only_is_made ok h whole (s x) e) solved
 
 -- no assignment that meets the state makes two types equal that were refused
-pub refused_apart : (ok : Shape) (before : State) (a b : Ty) → NoAlias ok → BindsOnly ok (log_of (bindings before)) → IsMadeOf ok whole (term a) → IsMadeOf ok whole (term b) → (CanBeEqual before a b → ⊥) → (s : Hole → Term) → Respects s → Meets s before → apply s (term a) ≡ apply s (term b) → ⊥
+pub refused_apart : (ok : Shape) (before : State) (a b : Ty) → NoAlias ok → BindsOnly ok (log_of (bindings before))
+    → IsMadeOf ok whole (term a) → IsMadeOf ok whole (term b) → (CanBeEqual before a b → ⊥) → (s : Hole → Term) → Respects s
+    → Meets s before → apply s (term a) ≡ apply s (term b) → ⊥
 refused_apart ok before a b n h i j apart s r m e =
     let p = plain_of ok n (resolved_term before a) (made_of_resolved_term ok before a h i) in
     let q = plain_of ok n (resolved_term before b) (made_of_resolved_term ok before b h j) in
     let P : Term → Type 0 = IsReadAs s (resolved_term before b) in
     let same = apply_resolved_term s before b m ∙ sym e ∙ sym (apply_resolved_term s before a m) in
-    apart (s, apply s (resolved_term before a), r, m, reads_plain s (resolved_term before a) p, subst P same (reads_plain s (resolved_term before b) q))
+    apart (
+      s,
+      apply s (resolved_term before a),
+      r,
+      m,
+      reads_plain s (resolved_term before a) p,
+      subst P same
+          (reads_plain s (resolved_term before b) q),
+    )

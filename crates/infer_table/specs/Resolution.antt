@@ -58,7 +58,8 @@ terms_composed f g (hole_of.Ty n) = term_folded f (g.var n)
 terms_composed f g (hole_of.Int n) = term_folded f (g.int_var n)
 terms_composed f g (hole_of.Const n) = const_term_folded f (g.const_var n)
 
-resolved_step : (b : Binding) (bs : List Binding) (t : Term) → resolved (log_of (b ∷ bs)) t ≡ resolved (log_of bs) (sub (bound_hole b) (bound_term b) t)
+resolved_step : (b : Binding) (bs : List Binding) (t : Term)
+    → resolved (log_of (b ∷ bs)) t ≡ resolved (log_of bs) (sub (bound_hole b) (bound_term b) t)
 resolved_step (binding.Ty x u) bs t = refl
 resolved_step (binding.Int x u) bs t = refl
 resolved_step (binding.Const x c) bs t = refl
@@ -71,7 +72,8 @@ resolution_terms (b ∷ bs) k =
     ∙ apply_resolution bs (single (bound_hole b) (bound_term b) k) (resolution_terms bs)
     ∙ sym (resolved_step b bs (hole k))
   where
-    apply_resolution : (bs : List Binding) (t : Term) → ((k : Hole) → terms_of (resolution bs) k ≡ resolved (log_of bs) (hole k)) → apply (terms_of (resolution bs)) t ≡ resolved (log_of bs) t
+    apply_resolution : (bs : List Binding) (t : Term) → ((k : Hole) → terms_of (resolution bs) k ≡ resolved (log_of bs) (hole k))
+        → apply (terms_of (resolution bs)) t ≡ resolved (log_of bs) t
     apply_resolution bs t h = apply_agree (terms_of (resolution bs)) (solution (log_of bs)) t (λ k _. h k) ∙ solution_apply (log_of bs) t
 
 pub resolution_term : (bs : List Binding) (t : Ty) → term (folded (resolution bs) t) ≡ resolved (log_of bs) (term t)
@@ -80,7 +82,8 @@ resolution_term bs t =
     ∙ apply_agree (terms_of (resolution bs)) (solution (log_of bs)) (term t) (λ k _. resolution_terms bs k)
     ∙ solution_apply (log_of bs) (term t)
 
-pub resolution_const_term : (bs : List Binding) (c : Const) → const_term (const_folded (resolution bs) c) ≡ resolved (log_of bs) (const_term c)
+pub resolution_const_term : (bs : List Binding) (c : Const)
+    → const_term (const_folded (resolution bs) c) ≡ resolved (log_of bs) (const_term c)
 resolution_const_term bs c =
     const_term_folded (resolution bs) c
     ∙ apply_agree (terms_of (resolution bs)) (solution (log_of bs)) (const_term c) (λ k _. resolution_terms bs k)
@@ -114,12 +117,14 @@ single_other (binding.Const x c) (hole_of.Const n) h = at_other_const x n c (nat
 pub single_absent : (b : Binding) (t : Ty) → occurs (bound_hole b) (term t) ≡ false → folded (single_assignment b) t ≡ t
 single_absent b t h = folded_absent (bound_hole b) (single_assignment b) (single_other b) t h
 
-pub single_const_absent : (b : Binding) (c : Const) → occurs (bound_hole b) (const_term c) ≡ false → const_folded (single_assignment b) c ≡ c
+pub single_const_absent : (b : Binding) (c : Const) → occurs (bound_hole b) (const_term c) ≡ false
+    → const_folded (single_assignment b) c ≡ c
 single_const_absent b c h = const_folded_absent (bound_hole b) (single_assignment b) (single_other b) c h
 
 -- ---- the binding of a hole
 
-some_binding : (a b : Binding) (o : Option Binding) (c : Bool) → cond c (Some a) o ≡ Some b → ((c ≡ true) × (a ≡ b)) ⊎ ((c ≡ false) × (o ≡ Some b))
+some_binding : (a b : Binding) (o : Option Binding) (c : Bool) → cond c (Some a) o ≡ Some b → ((c ≡ true) × (a ≡ b))
+    ⊎ ((c ≡ false) × (o ≡ Some b))
 some_binding a b o true e = inl (refl, cc)
 some_binding a b o false e = inr (refl, e)
 
@@ -135,7 +140,8 @@ found_is (a ∷ bs) k b e = elim (some_binding a b (found_binding bs k) (hole_eq
   | inr q ↦ found_is bs k b q.1
 ]
 
-found_step : (a : Binding) (bs : List Binding) (k : Hole) → found (log_of (a ∷ bs)) k ≡ cond (hole_eq k (bound_hole a)) (Some (bound_term a)) (found (log_of bs) k)
+found_step : (a : Binding) (bs : List Binding) (k : Hole)
+    → found (log_of (a ∷ bs)) k ≡ cond (hole_eq k (bound_hole a)) (Some (bound_term a)) (found (log_of bs) k)
 found_step (binding.Ty x u) bs k = refl
 found_step (binding.Int x u) bs k = refl
 found_step (binding.Const x c) bs k = refl
@@ -144,27 +150,32 @@ found_step (binding.Const x c) bs k = refl
 pub found_in_log : (bs : List Binding) (k : Hole) (b : Binding) → found_binding bs k ≡ Some b → found (log_of bs) k ≡ Some (bound_term b)
 found_in_log [] k b e = cc
 found_in_log (a ∷ bs) k b e = elim (some_binding a b (found_binding bs k) (hole_eq k (bound_hole a)) e) [
-  | inl q ↦ found_step a bs k ∙ ap (λ (c : Bool). cond c (Some (bound_term a)) (found (log_of bs) k)) q.0 ∙ ap (λ (z : Binding). Some (bound_term z)) q.1
+  | inl q ↦ found_step a bs k ∙ ap (λ (c : Bool). cond c (Some (bound_term a)) (found (log_of bs) k)) q.0 ∙ ap
+      (λ (z : Binding). Some (bound_term z)) q.1
   | inr q ↦ found_step a bs k ∙ ap (λ (c : Bool). cond c (Some (bound_term a)) (found (log_of bs) k)) q.0 ∙ found_in_log bs k b q.1
 ]
 
-absent_step : (x : Hole) (a : Binding) (bs : List Binding) → Absent x (log_of (a ∷ bs)) → (hole_eq x (bound_hole a) ≡ false) × (occurs x (bound_term a) ≡ false) × Absent x (log_of bs)
+absent_step : (x : Hole) (a : Binding) (bs : List Binding) → Absent x (log_of (a ∷ bs)) → (hole_eq x (bound_hole a) ≡ false)
+    × (occurs x (bound_term a) ≡ false) × Absent x (log_of bs)
 absent_step x (binding.Ty y u) bs h = h
 absent_step x (binding.Int y u) bs h = h
 absent_step x (binding.Const y c) bs h = h
 
-triangular_step : (a : Binding) (bs : List Binding) → Triangular (log_of (a ∷ bs)) → (occurs (bound_hole a) (bound_term a) ≡ false) × Kept (bound_hole a) (bound_term a) × Absent (bound_hole a) (log_of bs) × Triangular (log_of bs)
+triangular_step : (a : Binding) (bs : List Binding) → Triangular (log_of (a ∷ bs)) → (occurs (bound_hole a) (bound_term a) ≡ false)
+    × Kept (bound_hole a) (bound_term a) × Absent (bound_hole a) (log_of bs) × Triangular (log_of bs)
 triangular_step (binding.Ty y u) bs h = h
 triangular_step (binding.Int y u) bs h = h
 triangular_step (binding.Const y c) bs h = h
 
 -- a hole that is absent is neither the bound hole nor in what it is bound to
-absent_found : (x : Hole) (bs : List Binding) (k : Hole) (b : Binding) → Absent x (log_of bs) → found_binding bs k ≡ Some b → (hole_eq x (bound_hole b) ≡ false) × (occurs x (bound_term b) ≡ false)
+absent_found : (x : Hole) (bs : List Binding) (k : Hole) (b : Binding) → Absent x (log_of bs) → found_binding bs k ≡ Some b
+    → (hole_eq x (bound_hole b) ≡ false) × (occurs x (bound_term b) ≡ false)
 absent_found x [] k b h e = cc
 absent_found x (a ∷ bs) k b h e =
     let n = absent_step x a bs h in
     elim (some_binding a b (found_binding bs k) (hole_eq k (bound_hole a)) e) [
-      | inl q ↦ let P : Binding → Type 0 = λ z. (hole_eq x (bound_hole z) ≡ false) × (occurs x (bound_term z) ≡ false) in subst P q.1 (n.0, n.1)
+      | inl q ↦ let P : Binding → Type 0 = λ z. (hole_eq x (bound_hole z) ≡ false) × (occurs x (bound_term z) ≡ false) in
+          subst P q.1 (n.0, n.1)
       | inr q ↦ absent_found x bs k b n.2 q.1
     ]
 
@@ -188,10 +199,12 @@ holds_first s (binding.Int n t) h =
     ap (folded s) (at_same t (ty.IntVar n) (nat_eq n n) (hole_eq_same (hole_of.Int n)) ∙ sym (single_absent (binding.Int n t) t h))
     ∙ folded_twice s (single_assignment (binding.Int n t)) t
 holds_first s (binding.Const n c) h =
-    ap (const_folded s) (at_same c (const.Var n) (nat_eq n n) (hole_eq_same (hole_of.Const n)) ∙ sym (single_const_absent (binding.Const n c) c h))
+    ap (const_folded s) (at_same c (const.Var n) (nat_eq n n) (hole_eq_same (hole_of.Const n)) ∙ sym
+    (single_const_absent (binding.Const n c) c h))
     ∙ const_folded_twice s (single_assignment (binding.Const n c)) c
 
-holds_later : (s : Assignment) (a b : Binding) → hole_eq (bound_hole a) (bound_hole b) ≡ false → occurs (bound_hole a) (bound_term b) ≡ false → Holds s b → Holds (composed s (single_assignment a)) b
+holds_later : (s : Assignment) (a b : Binding) → hole_eq (bound_hole a) (bound_hole b) ≡ false
+    → occurs (bound_hole a) (bound_term b) ≡ false → Holds s b → Holds (composed s (single_assignment a)) b
 holds_later s a (binding.Ty n t) h o e =
     ap (folded s) (single_other a (hole_of.Ty n) h) ∙ replaced_var (with_holes s) n ∙ e
     ∙ ap (folded s) (sym (single_absent a t o)) ∙ folded_twice s (single_assignment a) t
@@ -202,7 +215,8 @@ holds_later s a (binding.Const n c) h o e =
     ap (const_folded s) (single_other a (hole_of.Const n) h) ∙ e
     ∙ ap (const_folded s) (sym (single_const_absent a c o)) ∙ const_folded_twice s (single_assignment a) c
 
-pub found_holds : (bs : List Binding) (k : Hole) (b : Binding) → Triangular (log_of bs) → found_binding bs k ≡ Some b → Holds (resolution bs) b
+pub found_holds : (bs : List Binding) (k : Hole) (b : Binding) → Triangular (log_of bs) → found_binding bs k ≡ Some b
+    → Holds (resolution bs) b
 found_holds [] k b t e = cc
 found_holds (a ∷ bs) k b t e =
     let n = triangular_step a bs t in
@@ -211,18 +225,22 @@ found_holds (a ∷ bs) k b t e =
       | inr q ↦ let m = absent_found (bound_hole a) bs k b n.2 q.1 in holds_later (resolution bs) a b m.0 m.1 (found_holds bs k b n.3 q.1)
     ]
 
-pub found_var : (bs : List Binding) (n : ℕ) (t : Ty) → Triangular (log_of bs) → found_binding bs (hole_of.Ty n) ≡ Some (binding.Ty n t) → (resolution bs).var n ≡ folded (resolution bs) t
+pub found_var : (bs : List Binding) (n : ℕ) (t : Ty) → Triangular (log_of bs) → found_binding bs (hole_of.Ty n) ≡ Some (binding.Ty n t)
+    → (resolution bs).var n ≡ folded (resolution bs) t
 found_var bs n t h e = found_holds bs (hole_of.Ty n) (binding.Ty n t) h e
 
-pub found_int_var : (bs : List Binding) (n : ℕ) (t : Ty) → Triangular (log_of bs) → found_binding bs (hole_of.Int n) ≡ Some (binding.Int n t) → (resolution bs).int_var n ≡ folded (resolution bs) t
+pub found_int_var : (bs : List Binding) (n : ℕ) (t : Ty) → Triangular (log_of bs)
+    → found_binding bs (hole_of.Int n) ≡ Some (binding.Int n t) → (resolution bs).int_var n ≡ folded (resolution bs) t
 found_int_var bs n t h e = found_holds bs (hole_of.Int n) (binding.Int n t) h e
 
-pub found_const_var : (bs : List Binding) (n : ℕ) (c : Const) → Triangular (log_of bs) → found_binding bs (hole_of.Const n) ≡ Some (binding.Const n c) → (resolution bs).const_var n ≡ const_folded (resolution bs) c
+pub found_const_var : (bs : List Binding) (n : ℕ) (c : Const) → Triangular (log_of bs)
+    → found_binding bs (hole_of.Const n) ≡ Some (binding.Const n c) → (resolution bs).const_var n ≡ const_folded (resolution bs) c
 found_const_var bs n c h e = found_holds bs (hole_of.Const n) (binding.Const n c) h e
 
 -- ---- what an open hole comes to
 
-itself_later : (s : Assignment) (a : Binding) (k : Hole) → hole_eq (bound_hole a) k ≡ false → SameAt s each_itself k → SameAt (composed s (single_assignment a)) each_itself k
+itself_later : (s : Assignment) (a : Binding) (k : Hole) → hole_eq (bound_hole a) k ≡ false → SameAt s each_itself k
+    → SameAt (composed s (single_assignment a)) each_itself k
 itself_later s a (hole_of.Ty n) h e = ap (folded s) (single_other a (hole_of.Ty n) h) ∙ replaced_var (with_holes s) n ∙ e
 itself_later s a (hole_of.Int n) h e = ap (folded s) (single_other a (hole_of.Int n) h) ∙ replaced_int_var (with_holes s) n ∙ e
 itself_later s a (hole_of.Const n) h e = ap (const_folded s) (single_other a (hole_of.Const n) h) ∙ e
@@ -324,37 +342,45 @@ some_has_const n (binding.Int m u) h e = cc
 some_has_const n (binding.Const m c) h e = cc
 
 -- a binding that is found, from what it holds
-binding_behind : {X : Type 0} (f : Option Binding → Option X) (o : Option Binding) (x : X) → f None ≡ None → f o ≡ Some x → (b : Binding) × (o ≡ Some b) × (f (Some b) ≡ Some x)
+binding_behind : {X : Type 0} (f : Option Binding → Option X) (o : Option Binding) (x : X) → f None ≡ None → f o ≡ Some x → (b : Binding)
+    × (o ≡ Some b) × (f (Some b) ≡ Some x)
 binding_behind f None x n e = let g = sym n ∙ e in cc
 binding_behind f (Some b) x n e = (b, refl, e)
 
-none_of : {X : Type 0} (f : Option Binding → Option X) (o : Option Binding) → ((b : Binding) → o ≡ Some b → f (Some b) ≡ None → ⊥) → f o ≡ None → o ≡ None
+none_of : {X : Type 0} (f : Option Binding → Option X) (o : Option Binding) → ((b : Binding) → o ≡ Some b → f (Some b) ≡ None → ⊥)
+    → f o ≡ None → o ≡ None
 none_of f None h e = refl
 none_of f (Some b) h e = absurd (h b refl e)
 
-pub type_found : (bs : List Binding) (n : ℕ) (t : Ty) → found_type bs (hole_of.Ty n) ≡ Some t → found_binding bs (hole_of.Ty n) ≡ Some (binding.Ty n t)
+pub type_found : (bs : List Binding) (n : ℕ) (t : Ty) → found_type bs (hole_of.Ty n) ≡ Some t
+    → found_binding bs (hole_of.Ty n) ≡ Some (binding.Ty n t)
 type_found bs n t e =
     let p = binding_behind type_bound (found_binding bs (hole_of.Ty n)) t refl e in
     p.1 ∙ ap Some (bound_is_type n p.0 t (found_is bs (hole_of.Ty n) p.0 p.1) p.2)
 
-pub int_found : (bs : List Binding) (n : ℕ) (t : Ty) → found_type bs (hole_of.Int n) ≡ Some t → found_binding bs (hole_of.Int n) ≡ Some (binding.Int n t)
+pub int_found : (bs : List Binding) (n : ℕ) (t : Ty) → found_type bs (hole_of.Int n) ≡ Some t
+    → found_binding bs (hole_of.Int n) ≡ Some (binding.Int n t)
 int_found bs n t e =
     let p = binding_behind type_bound (found_binding bs (hole_of.Int n)) t refl e in
     p.1 ∙ ap Some (bound_is_int n p.0 t (found_is bs (hole_of.Int n) p.0 p.1) p.2)
 
-pub const_found : (bs : List Binding) (n : ℕ) (c : Const) → found_const bs n ≡ Some c → found_binding bs (hole_of.Const n) ≡ Some (binding.Const n c)
+pub const_found : (bs : List Binding) (n : ℕ) (c : Const) → found_const bs n ≡ Some c
+    → found_binding bs (hole_of.Const n) ≡ Some (binding.Const n c)
 const_found bs n c e =
     let p = binding_behind const_bound (found_binding bs (hole_of.Const n)) c refl e in
     p.1 ∙ ap Some (bound_is_const n p.0 c (found_is bs (hole_of.Const n) p.0 p.1) p.2)
 
 pub no_type_found : (bs : List Binding) (n : ℕ) → found_type bs (hole_of.Ty n) ≡ None → found_binding bs (hole_of.Ty n) ≡ None
-no_type_found bs n e = none_of type_bound (found_binding bs (hole_of.Ty n)) (λ b f g. some_has_type n b (found_is bs (hole_of.Ty n) b f) g) e
+no_type_found bs n e = none_of type_bound (found_binding bs (hole_of.Ty n)) (λ b f g. some_has_type n b (found_is bs (hole_of.Ty n) b f) g)
+    e
 
 pub no_int_found : (bs : List Binding) (n : ℕ) → found_type bs (hole_of.Int n) ≡ None → found_binding bs (hole_of.Int n) ≡ None
-no_int_found bs n e = none_of type_bound (found_binding bs (hole_of.Int n)) (λ b f g. some_has_int n b (found_is bs (hole_of.Int n) b f) g) e
+no_int_found bs n e = none_of type_bound (found_binding bs (hole_of.Int n)) (λ b f g. some_has_int n b (found_is bs (hole_of.Int n) b f) g)
+    e
 
 pub no_const_found : (bs : List Binding) (n : ℕ) → found_const bs n ≡ None → found_binding bs (hole_of.Const n) ≡ None
-no_const_found bs n e = none_of const_bound (found_binding bs (hole_of.Const n)) (λ b f g. some_has_const n b (found_is bs (hole_of.Const n) b f) g) e
+no_const_found bs n e = none_of const_bound (found_binding bs (hole_of.Const n))
+    (λ b f g. some_has_const n b (found_is bs (hole_of.Const n) b f) g) e
 
 -- among terms
 pub type_in_log : (bs : List Binding) (k : Hole) (t : Ty) → found_type bs k ≡ Some t → found (log_of bs) k ≡ Some (term t)
@@ -362,7 +388,8 @@ type_in_log bs k t e =
     let p = binding_behind type_bound (found_binding bs k) t refl e in
     found_in_log bs k p.0 p.1 ∙ ap Some (bound_has_term p.0 t p.2)
 
-pub const_in_log : (bs : List Binding) (n : ℕ) (c : Const) → found_const bs n ≡ Some c → found (log_of bs) (hole_of.Const n) ≡ Some (const_term c)
+pub const_in_log : (bs : List Binding) (n : ℕ) (c : Const) → found_const bs n ≡ Some c
+    → found (log_of bs) (hole_of.Const n) ≡ Some (const_term c)
 const_in_log bs n c e =
     let p = binding_behind const_bound (found_binding bs (hole_of.Const n)) c refl e in
     found_in_log bs (hole_of.Const n) p.0 p.1 ∙ ap Some (bound_has_const p.0 c p.2)
@@ -376,7 +403,8 @@ pub found_for_int_var : (bs : List Binding) (n : ℕ) → found_for bs (ty.IntVa
 found_for_int_var bs n = ap (found_at bs) (ap out-Ty (sym (ty.rolls-IntVar n)) ∙ out-roll-Ty (Ty-F.IntVar n))
 
 -- a type is bound only where it is a hole
-bound_is_hole : (bs : List Binding) (x : Ty-F GenericArg Ty AliasBound TraitRef) (u : Ty) → found_at bs x ≡ Some u → ((n : ℕ) × (x ≡ Ty-F.Var n)) ⊎ ((n : ℕ) × (x ≡ Ty-F.IntVar n))
+bound_is_hole : (bs : List Binding) (x : Ty-F GenericArg Ty AliasBound TraitRef) (u : Ty) → found_at bs x ≡ Some u
+    → ((n : ℕ) × (x ≡ Ty-F.Var n)) ⊎ ((n : ℕ) × (x ≡ Ty-F.IntVar n))
 bound_is_hole bs (Ty-F.Var n) u e = inl (n, refl)
 bound_is_hole bs (Ty-F.IntVar n) u e = inr (n, refl)
 bound_is_hole bs _ u e = cc
@@ -394,20 +422,34 @@ hole_for bs t u e = elim (bound_is_hole bs (out-Ty t) u e) [
 ]
 
 -- it comes to what the type that it is bound to comes to
-pub found_for_folded : (bs : List Binding) (t u : Ty) → Triangular (log_of bs) → found_for bs t ≡ Some u → folded (resolution bs) u ≡ folded (resolution bs) t
+pub found_for_folded : (bs : List Binding) (t u : Ty) → Triangular (log_of bs) → found_for bs t ≡ Some u
+    → folded (resolution bs) u ≡ folded (resolution bs) t
 found_for_folded bs t u h e = elim (hole_for bs t u e) [
   | inl q ↦
       let f = sym (found_for_var bs q.0) ∙ ap (found_for bs) (sym q.1) ∙ e in
-      sym (found_var bs q.0 u h (type_found bs q.0 u f)) ∙ sym (replaced_var (with_holes (resolution bs)) q.0) ∙ ap (folded (resolution bs)) (sym q.1)
+      sym (found_var bs q.0 u h (type_found bs q.0 u f)) ∙ sym (replaced_var (with_holes (resolution bs)) q.0) ∙ ap
+      (folded (resolution bs)) (sym q.1)
   | inr q ↦
       let f = sym (found_for_int_var bs q.0) ∙ ap (found_for bs) (sym q.1) ∙ e in
-      sym (found_int_var bs q.0 u h (int_found bs q.0 u f)) ∙ sym (replaced_int_var (with_holes (resolution bs)) q.0) ∙ ap (folded (resolution bs)) (sym q.1)
+      sym (found_int_var bs q.0 u h (int_found bs q.0 u f)) ∙ sym (replaced_int_var (with_holes (resolution bs)) q.0) ∙ ap
+      (folded (resolution bs)) (sym q.1)
 ]
 
-pub found_for_in_log : (bs : List Binding) (t u : Ty) → found_for bs t ≡ Some u → (k : Hole) × (term t ≡ hole k) × (found (log_of bs) k ≡ Some (term u))
+pub found_for_in_log : (bs : List Binding) (t u : Ty) → found_for bs t ≡ Some u → (k : Hole) × (term t ≡ hole k)
+    × (found (log_of bs) k ≡ Some (term u))
 found_for_in_log bs t u e = elim (hole_for bs t u e) [
-  | inl q ↦ (hole_of.Ty q.0, ap term q.1 ∙ term_var q.0, type_in_log bs (hole_of.Ty q.0) u (sym (found_for_var bs q.0) ∙ ap (found_for bs) (sym q.1) ∙ e))
-  | inr q ↦ (hole_of.Int q.0, ap term q.1 ∙ term_int_var q.0, type_in_log bs (hole_of.Int q.0) u (sym (found_for_int_var bs q.0) ∙ ap (found_for bs) (sym q.1) ∙ e))
+  | inl q ↦ (
+    hole_of.Ty q.0,
+    ap term q.1 ∙ term_var q.0,
+    type_in_log bs (hole_of.Ty q.0) u
+        (sym (found_for_var bs q.0) ∙ ap (found_for bs) (sym q.1) ∙ e),
+  )
+  | inr q ↦ (
+    hole_of.Int q.0,
+    ap term q.1 ∙ term_int_var q.0,
+    type_in_log bs (hole_of.Int q.0) u
+        (sym (found_for_int_var bs q.0) ∙ ap (found_for bs) (sym q.1) ∙ e),
+  )
 ]
 
 pub none_for : (bs : List Binding) (t : Ty) → found_for bs t ≡ None → IsOpenOrKnown bs t

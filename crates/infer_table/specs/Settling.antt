@@ -34,14 +34,16 @@ settled_at s = IsSettled (log_of s.log)
 pub record Settled (before after : Substitution) (at : ℕ) (t : Term) : Type 0 where
   pub keeps : (p : ℕ × Term) → settled_at before p → settled_at after p
   pub settles : (n : ℕ) → resolved (log_of before.log) (hole (hole_of.Ty n)) ≡ hole (hole_of.Ty at) → settled_at after (n, t)
-  pub bound : (after ≡ before) ⊎ (Unified (log_of before.log) (log_of after.log) (hole (hole_of.Ty at)) t × CanBeAnything (log_of before.log) at)
+  pub bound : (after ≡ before) ⊎ (Unified (log_of before.log) (log_of after.log) (hole (hole_of.Ty at)) t
+      × CanBeAnything (log_of before.log) at)
 
 -- what was settled stays so, and with it is the origin; nothing is bound but
 -- what has its hole, which was free, come to its alias
 pub record SettlesOrigin (before after : Substitution) (o : Origin) : Type 0 where
   pub keeps : (p : ℕ × Term) → settled_at before p → settled_at after p
   pub settled : settled_at after (o.hole, term o.alias)
-  pub bound : (after ≡ before) ⊎ (Unified (log_of before.log) (log_of after.log) (hole (hole_of.Ty o.hole)) (term o.alias) × CanBeAnything (log_of before.log) o.hole)
+  pub bound : (after ≡ before) ⊎ (Unified (log_of before.log) (log_of after.log) (hole (hole_of.Ty o.hole)) (term o.alias)
+      × CanBeAnything (log_of before.log) o.hole)
 
 -- holes were made and bindings added
 pub record OnlyGrows (before after : Substitution) : Type 0 where
@@ -58,10 +60,13 @@ pub record IsUnified (before after : Substitution) (a b : Term) : Type 0 where
   pub solvable : (s : Hole → Term) × Respects s × Solves s (log_of after.log)
   pub agree : Agree (resolved (log_of after.log) a) (resolved (log_of after.log) b)
   pub most_general : IsPlain (resolved (log_of before.log) a) → IsPlain (resolved (log_of before.log) b) → UnifiesGenerally before after a b
-  pub least : BindsLeast (length before.kinds) (log_of before.log) (log_of after.log) (resolved (log_of before.log) a) (resolved (log_of before.log) b)
+  pub least : BindsLeast (length before.kinds) (log_of before.log) (log_of after.log) (resolved (log_of before.log) a)
+      (resolved (log_of before.log) b)
   pub made : length after.kinds ≡ number_after_both (length before.kinds) (resolved (log_of before.log) a) (resolved (log_of before.log) b)
-  pub left_holes : HolesAreLeft (length before.kinds) after.log (resolved (log_of before.log) a) (resolved (log_of before.log) b) (resolved (log_of after.log) a)
-  pub right_holes : HolesAreLeft (length before.kinds) after.log (resolved (log_of before.log) a) (resolved (log_of before.log) b) (resolved (log_of after.log) b)
+  pub left_holes : HolesAreLeft (length before.kinds) after.log (resolved (log_of before.log) a) (resolved (log_of before.log) b)
+      (resolved (log_of after.log) a)
+  pub right_holes : HolesAreLeft (length before.kinds) after.log (resolved (log_of before.log) a) (resolved (log_of before.log) b)
+      (resolved (log_of after.log) b)
 
 abbrev pub Unifies : Bool → Substitution → Substitution → Term → Term → Type 0
 Unifies true before after a b = IsUnified before after a b

@@ -100,7 +100,8 @@ pub record IsMostGeneral (before after : State) (a b : Ty) : Type 0 where
 
 -- some reading of aliases and `{unknown}`, at each place by anything, makes the two equal
 abbrev pub CanBeEqual : State → Ty → Ty → Type 0
-CanBeEqual state a b = (s : Hole → Term) × (u : Term) × Respects s × Meets s state × IsReadAs s (resolved_term state a) u × IsReadAs s (resolved_term state b) u
+CanBeEqual state a b = (s : Hole → Term) × (u : Term) × Respects s × Meets s state × IsReadAs s (resolved_term state a) u
+    × IsReadAs s (resolved_term state b) u
 
 -- exactly these assignments meet the state after: those that meet the state before, make the two equal with a
 -- new hole of its own in the place of each alias and of each `{unknown}`, and have some of these holes, each

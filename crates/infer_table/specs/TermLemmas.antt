@@ -196,7 +196,9 @@ chain_length s (x ∷ xs) [] e = absurd (leaf_pair (sym e))
 chain_length s (x ∷ xs) (y ∷ ys) e = let h = chain_length s xs ys (pair_right e) in omega (arith, h)
 
 -- what comes out the same at a place within
-pub chain_split : (s : Hole → Term) (xs ys : List Term) (x y : Term) (xs' ys' : List Term) → length xs ≡ length ys → apply s (chain (xs ++ x ∷ xs')) ≡ apply s (chain (ys ++ y ∷ ys')) → (apply s (chain xs) ≡ apply s (chain ys)) × (apply s x ≡ apply s y) × (apply s (chain xs') ≡ apply s (chain ys'))
+pub chain_split : (s : Hole → Term) (xs ys : List Term) (x y : Term) (xs' ys' : List Term) → length xs ≡ length ys
+    → apply s (chain (xs ++ x ∷ xs')) ≡ apply s (chain (ys ++ y ∷ ys')) → (apply s (chain xs) ≡ apply s (chain ys))
+    × (apply s x ≡ apply s y) × (apply s (chain xs') ≡ apply s (chain ys'))
 chain_split s [] [] x y xs' ys' n e = (refl, pair_left e, pair_right e)
 chain_split s [] (b ∷ ys) x y xs' ys' n e = absurd (omega (arith, n))
 chain_split s (a ∷ xs) [] x y xs' ys' n e = absurd (omega (arith, n))
@@ -205,14 +207,16 @@ chain_split s (a ∷ xs) (b ∷ ys) x y xs' ys' n e =
     (ap₂ pair (pair_left e) p.0, p.1, p.2)
 
 -- and back
-pub chain_join : (s : Hole → Term) (xs ys xs' ys' : List Term) → apply s (chain xs) ≡ apply s (chain ys) → apply s (chain xs') ≡ apply s (chain ys') → apply s (chain (xs ++ xs')) ≡ apply s (chain (ys ++ ys'))
+pub chain_join : (s : Hole → Term) (xs ys xs' ys' : List Term) → apply s (chain xs) ≡ apply s (chain ys)
+    → apply s (chain xs') ≡ apply s (chain ys') → apply s (chain (xs ++ xs')) ≡ apply s (chain (ys ++ ys'))
 chain_join s [] [] xs' ys' e f = f
 chain_join s [] (b ∷ ys) xs' ys' e f = absurd (leaf_pair e)
 chain_join s (a ∷ xs) [] xs' ys' e f = absurd (leaf_pair (sym e))
 chain_join s (a ∷ xs) (b ∷ ys) xs' ys' e f = ap₂ pair (pair_left e) (chain_join s xs ys xs' ys' (pair_right e) f)
 
 -- one part more at the end
-pub chain_last : (s : Hole → Term) (xs ys : List Term) (x y : Term) → apply s (chain (xs ++ x ∷ [])) ≡ apply s (chain (ys ++ y ∷ [])) → (apply s (chain xs) ≡ apply s (chain ys)) × (apply s x ≡ apply s y)
+pub chain_last : (s : Hole → Term) (xs ys : List Term) (x y : Term) → apply s (chain (xs ++ x ∷ [])) ≡ apply s (chain (ys ++ y ∷ []))
+    → (apply s (chain xs) ≡ apply s (chain ys)) × (apply s x ≡ apply s y)
 chain_last s [] [] x y e = (refl, pair_left e)
 chain_last s [] (b ∷ ys) x y e = absurd (no_end s ys y [] (sym (pair_right e)))
 chain_last s (a ∷ xs) [] x y e = absurd (no_end s xs x [] (pair_right e))

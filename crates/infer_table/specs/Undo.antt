@@ -23,7 +23,8 @@ CommitsIfOk returns before after answer = (during : State) × returns answer dur
 
 -- the holes from this number on are open and unused
 abbrev pub AreUnusedFrom : ℕ → State → Type 0
-AreUnusedFrom n s = (k : Hole) → n ≤ hole_number k → (b : Binding) (i : ℕ) → slice_get (bindings s) i ≡ Some b → (bound_hole b ≡ k → ⊥) × (occurs k (bound_term b) ≡ false)
+AreUnusedFrom n s = (k : Hole) → n ≤ hole_number k → (b : Binding) (i : ℕ) → slice_get (bindings s) i ≡ Some b → (bound_hole b ≡ k → ⊥)
+    × (occurs k (bound_term b) ≡ false)
 
 -- what is answered of a value that the closure gave: what it was resolved to, or want of memory
 abbrev pub IsResolvedOr : {T E O : Type 0} → (Replacement → T → T) → State → Result (Result T E) O → Result (Result T E) O → Type 0
@@ -34,7 +35,8 @@ IsResolvedOr put_in during (Ok (Err e)) answer = answer ≡ Ok (Err e)
 IsResolvedOr put_in during (Err e) answer = answer ≡ Err e
 
 -- the closure was tried and undone
-pub record Fudges {T E O : Type 0} (put_in : Replacement → T → T) (returns : Result (Result T E) O → State → Type 0) (before after : State) (answer : Result (Result T E) O) : Type 0 where
+pub record Fudges {T E O : Type 0} (put_in : Replacement → T → T) (returns : Result (Result T E) O → State → Type 0) (before after : State)
+    (answer : Result (Result T E) O) : Type 0 where
   pub during : State
   pub given : Result (Result T E) O
   pub returned : returns given during

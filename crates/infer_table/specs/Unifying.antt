@@ -18,7 +18,8 @@ resolved_front : (l m : Log) (t : Term) → Triangular l → resolved (l ++ m) (
 resolved_front l m t h = resolved_append l m (resolved l t) ∙ ap (resolved m) (resolved_twice l t h) ∙ sym (resolved_append l m t)
 
 -- what was put in before changes nothing of what is put in after
-pub resolved_grown : (before after : Log) (t : Term) → Triangular before → GrownFrom before after → resolved after (resolved before t) ≡ resolved after t
+pub resolved_grown : (before after : Log) (t : Term) → Triangular before → GrownFrom before after
+    → resolved after (resolved before t) ≡ resolved after t
 resolved_grown before after t h g = let P : Log → Type 0 = λ l. resolved l (resolved before t) ≡ resolved l t in
     subst P (sym g.1) (resolved_front before g.0 t h)
 
@@ -46,10 +47,18 @@ module _ (n : ℕ) (before unified after : Log) (a b : Term) where
   pub can_be_same : GrownFrom unified after → Triangular after → AreUnified → CanBeSame before a b
   can_be_same g h u =
       let s = solution after in
-      let m = solves_grown s unified after g (solution_solves after h) in
-      (s, apply s (left_opened n before a), solution_respects after h, u.keeps s m, reads_apply s n (resolved before a) _ refl, reads_apply s (next_number n before a) (resolved before b) _ (sym (u.unifies s m)))
+      let m = solves_grown s unified after g (solution_solves after h) in (
+        s,
+        apply s (left_opened n before a),
+        solution_respects after h,
+        u.keeps s m,
+        reads_apply s n (resolved before a) _ refl,
+        reads_apply
+            s (next_number n before a) (resolved before b) _ (sym (u.unifies s m)),
+      )
 
-  pub both_agree : GrownFrom unified after → GrownFrom before after → Triangular before → Triangular after → AreUnified → AreSettled after (both_origins n before a b) → Agree (resolved after a) (resolved after b)
+  pub both_agree : GrownFrom unified after → GrownFrom before after → Triangular before → Triangular after → AreUnified
+      → AreSettled after (both_origins n before a b) → Agree (resolved after a) (resolved after b)
   both_agree g f p h u settled =
       let s = solution after in
       let m = solves_grown s unified after g (solution_solves after h) in
@@ -62,7 +71,9 @@ module _ (n : ℕ) (before unified after : Log) (a b : Term) where
       subst Q (resolved_grown before after b p f) (subst P (resolved_grown before after a p f) r)
 
 -- of plain types the opened terms are the types
-plain_unified : (n : ℕ) (before unified : Log) (a b : Term) → IsPlain (resolved before a) → IsPlain (resolved before b) → Unified before unified (left_opened n before a) (right_opened n before a b) → Unified before unified (resolved before a) (resolved before b)
+plain_unified : (n : ℕ) (before unified : Log) (a b : Term) → IsPlain (resolved before a) → IsPlain (resolved before b)
+    → Unified before unified (left_opened n before a) (right_opened n before a b)
+    → Unified before unified (resolved before a) (resolved before b)
 plain_unified n before unified a b p q u =
     let e = ap (λ (x : Term × ℕ). x.0) (opened_plain n (resolved before a) p) in
     let f = ap (λ (x : Term × ℕ). x.0) (opened_plain (next_number n before a) (resolved before b) q) in
@@ -70,19 +81,26 @@ plain_unified n before unified a b p q u =
     let Q : Term → Type 0 = λ x. Unified before unified (resolved before a) x in
     subst Q f (subst P e u)
 
-pub plain_unifies : (n : ℕ) (before unified : Log) (a b : Term) → IsPlain (resolved before a) → IsPlain (resolved before b) → Unified before unified (left_opened n before a) (right_opened n before a b) → (s : Hole → Term) → Solves s unified → apply s a ≡ apply s b
+pub plain_unifies : (n : ℕ) (before unified : Log) (a b : Term) → IsPlain (resolved before a) → IsPlain (resolved before b)
+    → Unified before unified (left_opened n before a) (right_opened n before a b) → (s : Hole → Term) → Solves s unified
+    → apply s a ≡ apply s b
 plain_unifies n before unified a b p q u s h =
     let v = plain_unified n before unified a b p q u in
     let k = v.keeps s h in
     sym (resolved_apply s before a k) ∙ v.unifies s h ∙ resolved_apply s before b k
 
-pub plain_general : (n : ℕ) (before unified : Log) (a b : Term) → IsPlain (resolved before a) → IsPlain (resolved before b) → Unified before unified (left_opened n before a) (right_opened n before a b) → (s : Hole → Term) → Solves s before → apply s a ≡ apply s b → Solves s unified
+pub plain_general : (n : ℕ) (before unified : Log) (a b : Term) → IsPlain (resolved before a) → IsPlain (resolved before b)
+    → Unified before unified (left_opened n before a) (right_opened n before a b) → (s : Hole → Term) → Solves s before
+    → apply s a ≡ apply s b → Solves s unified
 plain_general n before unified a b p q u s h e =
     (plain_unified n before unified a b p q u).general s h (resolved_apply s before a h ∙ e ∙ sym (resolved_apply s before b h))
 
-pub plain_next : (n : ℕ) (before : Log) (a b : Term) → IsPlain (resolved before a) → IsPlain (resolved before b) → (opened (next_number n before a) (resolved before b)).1 ≡ n
+pub plain_next : (n : ℕ) (before : Log) (a b : Term) → IsPlain (resolved before a) → IsPlain (resolved before b)
+    → (opened (next_number n before a) (resolved before b)).1 ≡ n
 plain_next n before a b p q =
-    ap (λ (x : Term × ℕ). x.1) (opened_plain (next_number n before a) (resolved before b) q) ∙ ap (λ (x : Term × ℕ). x.1) (opened_plain n (resolved before a) p)
+    ap (λ (x : Term × ℕ). x.1) (opened_plain (next_number n before a) (resolved before b) q) ∙ ap (λ (x : Term × ℕ). x.1)
+    (opened_plain n (resolved before a) p)
 
-pub cannot_be_same : (n : ℕ) (before : Log) (a b : Term) → IsBelow n (resolved before a) → IsBelow n (resolved before b) → LogIsBelow n before → NoneUnifies before (left_opened n before a) (right_opened n before a b) → CanBeSame before a b → ⊥
+pub cannot_be_same : (n : ℕ) (before : Log) (a b : Term) → IsBelow n (resolved before a) → IsBelow n (resolved before b)
+    → LogIsBelow n before → NoneUnifies before (left_opened n before a) (right_opened n before a b) → CanBeSame before a b → ⊥
 cannot_be_same n before a b p q r none c = none_reads n before (resolved before a) (resolved before b) p q r none c.0 c.1 c.2 c.3 c.4 c.5

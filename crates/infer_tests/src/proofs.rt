@@ -61,7 +61,7 @@ pub fn told_of(alloc: Global, ran: &Ran) -> Result<String, AllocError> {
         return String::from_str(alloc, "there is no table");
     };
     let def = DefWithBodyId::FunctionId(FunctionId(0));
-    if !facts.has_body(def) {
+    if !facts.has_carried_body(def) {
         return String::from_str(alloc, "there is no body");
     }
     let mut list = ToldList::new(alloc);

@@ -124,7 +124,8 @@ pub record IsRead {A : Type 0} (facts : A → RawFacts) (meaning : Result A Faul
   pub lawful : IsLawful (facts x)
 
 -- it stands for something of whose facts this law is the first broken one
-pub record IsUnlawful {A : Type 0} (facts : A → RawFacts) (meaning : Result A Fault) (law : Law) (list : FactsList) (index : ℕ) : Type 0 where
+pub record IsUnlawful {A : Type 0} (facts : A → RawFacts) (meaning : Result A Fault) (law : Law) (list : FactsList)
+    (index : ℕ) : Type 0 where
   pub broken : A
   pub stands : meaning ≡ Ok broken
   pub first : FirstBroken (facts broken) tests law list index

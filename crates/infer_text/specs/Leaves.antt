@@ -4,12 +4,13 @@ use Rattle.std.specs.Str.{bytes_eq}
 use Rattle.serde_json.specs.Data.{Data}
 use Rattle.serde_json.specs.Find.{as_str}
 use Rattle.infer_text.specs.Reading.{◌>>=◌, there, u32_in}
-use Rattle.infer_text.specs.Words.{AdtId, ModuleId, VariantId, TraitId, TypeAliasId, ConstId, TypeRefId, FunctionId, BodyId, ExprId, PatId, BindingId, LabelId, Other, Edition, RawAdtKind, RawCtor, BindingAnnotation, IntTy, UintTy, IntegerTy}
+use Rattle.infer_text.specs.Words.{AdtId, ModuleId, VariantId, TraitId, TypeAliasId, ConstId, TypeRefId, FunctionId, BodyId, ExprId, PatId, BindingId, LabelId, StaticId, ImplId, Mutability, Other, Edition, RawAdtKind, RawCtor, BindingAnnotation, IntTy, UintTy, IntegerTy}
 use Rattle.infer_text.specs.Words.hir_raw.declared.raw.Edition.TheVariants as edition
 use Rattle.infer_text.specs.Words.hir_raw.declared.raw.RawAdtKind.TheVariants as kind
 use Rattle.infer_text.specs.Words.hir_raw.declared.raw.RawCtor.TheVariants as ctor
 use Rattle.infer_text.specs.Words.hir_raw.declared.raw.BindingAnnotation.TheVariants as mode
 use Rattle.hir_types.specs.declared.ty.IntTy.TheVariants as int
+use Rattle.hir_types.specs.declared.ty.Mutability.TheVariants as mutability
 use Rattle.hir_types.specs.declared.ty.UintTy.TheVariants as uint
 use Rattle.hir_types.specs.declared.ty.IntegerTy.TheVariants as integer
 use Rattle.infer_text.specs.declared.leaves.Profile.{Profile}
@@ -54,6 +55,12 @@ binding_id_in d = u32_in d >>= λ n. Ok (record { 0 = n })
 
 abbrev pub label_in : Data → Result LabelId (List ℕ)
 label_in d = u32_in d >>= λ n. Ok (record { 0 = n })
+
+abbrev pub static_id_in : Data → Result StaticId (List ℕ)
+static_id_in d = u32_in d >>= λ n. Ok (record { 0 = n })
+
+abbrev pub impl_id_in : Data → Result ImplId (List ℕ)
+impl_id_in d = u32_in d >>= λ n. Ok (record { 0 = n })
 
 -- ---- what is not read
 
@@ -135,4 +142,11 @@ annotation_in d = do
       if bytes_eq s (codes "mut") then Ok mode.Mutable else
       if bytes_eq s (codes "ref") then Ok mode.Ref else
       if bytes_eq s (codes "refmut") then Ok mode.RefMut else
+      Err []
+
+unfoldable pub mutability_in : Data → Result Mutability (List ℕ)
+mutability_in d = do
+  s ← there (as_str d)
+  if bytes_eq s (codes "not") then Ok mutability.Not else
+      if bytes_eq s (codes "mut") then Ok mutability.Mut else
       Err []

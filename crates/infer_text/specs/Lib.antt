@@ -2,6 +2,14 @@ pub mod Reading
 pub mod Leaves
 pub mod Kinds
 pub mod Entries
+pub mod Literals
+pub mod Operators
+pub mod WrittenArgs
+pub mod Paths
+pub mod Stmts
+pub mod LaterExprs
+pub mod Exprs
+pub mod Pats
 pub mod Bodies
 pub mod Facts
 pub mod Abstract

@@ -6,9 +6,7 @@ ghost use Rattle.infer_text.specs.Own.{IsAsRead, AreAsRead, under, trait_item_in
 use super::entries::trait_ref_at;
 use super::fault::Misread;
 use super::reader::{FromData, expect_keys, expect_parts, field_of, misshapen, part_of, stepped};
-use hir_laws::hir_facts::{
-    List, RawAlias, RawAssocType, RawImpl, RawLang, RawTrait, RawTraitRef, TraitId,
-};
+use hir_facts::{List, RawAlias, RawAssocType, RawImpl, RawLang, RawTrait, RawTraitRef, TraitId};
 use serde_json::{Map, Value};
 use std::alloc::Global;
 

@@ -9,7 +9,7 @@ use super::leaves::integer_of;
 use super::reader::{
     FromData, expect_keys, expect_parts, field_of, is, is_one_of, misshapen, part_of, tag_of,
 };
-use hir_laws::hir_facts::{
+use hir_facts::{
     IntegerTy, List, ModuleId, RawAdt, RawArgs, RawAt, RawField, RawFn, RawGoal, RawLimits,
     RawParam, RawTraitRef, RawType, RawVariant, RawVis, TypeRefId,
 };

@@ -3,8 +3,8 @@ ghost use Rattle.std.specs.Prelude.{◌≡◌};
 ghost use Rattle.infer_text.specs.declared.fault.Misread.TheVariants.{OutOfMemory};
 
 use crate::wanted::wanted_at;
+use hir_facts::{FactsList, Law, Text};
 use hir_laws::FactsError;
-use hir_laws::hir_facts::{FactsList, Law, Text};
 use std::alloc::{AllocError, AllocFailed};
 use std::fmt;
 use thiserror::Error;

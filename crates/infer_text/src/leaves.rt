@@ -1,13 +1,13 @@
 //! Reading the parts that have no parts of their own.
 ghost use Rattle.std.specs.Prelude.{◌≡◌, Result, Some, None, Ok, Err};
-ghost use Rattle.infer_text.specs.Own.{bool_in, text_in, u32_in, module_in, trait_in, alias_id_in, const_id_in, adt_id_in, variant_id_in, type_ref_in, function_id_in, body_id_in, expr_id_in, pat_id_in, binding_id_in, label_in, other_in, int_name, uint_name, integer_name, integer_in, profile_in, edition_in, adt_kind_in, ctor_in, annotation_in};
+ghost use Rattle.infer_text.specs.Own.{bool_in, text_in, u32_in, module_in, trait_in, alias_id_in, const_id_in, adt_id_in, variant_id_in, type_ref_in, function_id_in, body_id_in, expr_id_in, pat_id_in, binding_id_in, label_in, static_id_in, impl_id_in, other_in, int_name, uint_name, integer_name, integer_in, profile_in, edition_in, adt_kind_in, ctor_in, annotation_in, mutability_in};
 
 use super::fault::Misread;
 use super::reader::{FromData, misshapen};
-use hir_laws::hir_facts::{
-    AdtId, BindingAnnotation, BindingId, BodyId, ConstId, Edition, ExprId, FunctionId, IntTy,
-    IntegerTy, LabelId, ModuleId, Other, PatId, RawAdtKind, RawCtor, Text, TraitId, TypeAliasId,
-    TypeRefId, UintTy, VariantId,
+use hir_facts::{
+    AdtId, BindingAnnotation, BindingId, BodyId, ConstId, Edition, ExprId, FunctionId, ImplId,
+    IntTy, IntegerTy, LabelId, ModuleId, Mutability, Other, PatId, RawAdtKind, RawCtor, StaticId,
+    Text, TraitId, TypeAliasId, TypeRefId, UintTy, VariantId,
 };
 use serde_json::Value;
 use std::alloc::Global;
@@ -146,6 +146,22 @@ impl FromData for LabelId {
 
     fn from_data(alloc: Global, value: &Value) -> Result<LabelId, Misread> {
         Ok(LabelId(u32::from_data(alloc, value)?))
+    }
+}
+
+impl FromData for StaticId {
+    ghost reads = { static_id_in };
+
+    fn from_data(alloc: Global, value: &Value) -> Result<StaticId, Misread> {
+        Ok(StaticId(u32::from_data(alloc, value)?))
+    }
+}
+
+impl FromData for ImplId {
+    ghost reads = { impl_id_in };
+
+    fn from_data(alloc: Global, value: &Value) -> Result<ImplId, Misread> {
+        Ok(ImplId(u32::from_data(alloc, value)?))
     }
 }
 
@@ -320,6 +336,24 @@ impl FromData for BindingAnnotation {
             Ok(BindingAnnotation::Ref)
         } else if word == "refmut" {
             Ok(BindingAnnotation::RefMut)
+        } else {
+            Err(misshapen(alloc))
+        }
+    }
+}
+
+#[tactic(auto, unfolding(crate::specs::Leaves::mutability_in))]
+impl FromData for Mutability {
+    ghost reads = { mutability_in };
+
+    fn from_data(alloc: Global, value: &Value) -> Result<Mutability, Misread> {
+        let Some(word) = value.as_str() else {
+            return Err(misshapen(alloc));
+        };
+        if word == "not" {
+            Ok(Mutability::Not)
+        } else if word == "mut" {
+            Ok(Mutability::Mut)
         } else {
             Err(misshapen(alloc))
         }

@@ -4,13 +4,21 @@
 mod abstractions;
 mod bodies;
 mod entries;
+mod exprs;
 mod fault;
+mod later_exprs;
 mod leaves;
+mod literals;
+mod operators;
+mod paths;
+mod pats;
 mod reader;
 mod reading;
 mod session;
+mod stmts;
 mod wanted;
 mod wanted_traits;
+mod written_args;
 
 pub use fault::ReadError;
 pub use reading::read_facts;

@@ -7,7 +7,7 @@ ghost use Rattle.serde_json.specs.View.{view, items_view};
 ghost use Rattle.infer_text.specs.Reading.{IsAsRead, AreAsRead, Fails, under, joined_path, field, part, read_each, keys_in, parts_in, tag, is_tag, there, option_in, list_in};
 
 use super::fault::Misread;
-use hir_laws::hir_facts::{List, Text};
+use hir_facts::{List, Text};
 use serde_json::Value;
 use std::alloc::{AllocError, Global};
 

@@ -7,7 +7,7 @@ use super::abstractions::Lang;
 use super::fault::{Misread, ReadError};
 use super::leaves::Profile;
 use super::reader::{FromData, expect_keys, field_of};
-use hir_laws::hir_facts::{
+use hir_facts::{
     Edition, Facts, List, ModuleId, Other, RawAdt, RawAlias, RawFacts, RawFn, RawImpl, RawLang,
     RawLimits, RawTrait, RawType, RawVariant,
 };

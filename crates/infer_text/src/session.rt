@@ -6,9 +6,7 @@ ghost use Rattle.infer_text.specs.Own.{kind_in, definition, definition_in, comma
 use super::fault::{Misread, ReadError};
 use super::reader::{FromData, expect_keys, field_of, is, misshapen, part_of, tag_of};
 use super::reading::{judge, read_raw};
-use hir_laws::hir_facts::{
-    ConstId, DefWithBodyId, Facts, FunctionId, List, RawFacts, StaticId, VariantId,
-};
+use hir_facts::{ConstId, DefWithBodyId, Facts, FunctionId, List, RawFacts, StaticId, VariantId};
 use serde_json::Value;
 use std::alloc::Global;
 

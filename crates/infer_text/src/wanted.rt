@@ -20,15 +20,13 @@ pub const INDEX_OF_TYPE: &str = "an index into `types`";
 
 const EXPRESSION: &str = "an expression's number";
 
-const MAYBE_EXPRESSION: &str = "an expression's number, or null";
-
 pub const PARAM: &str = "\"t\" or [\"c\", TYPE]";
 
 const VIS: &str = "\"pub\" or a module's number";
 
 const MAYBE_BODY: &str = "a body's number, or null";
 
-static PLACES: [Wanted; 93] = [
+static PLACES: [Wanted; 79] = [
     Wanted {
         path: b"",
         what: "an object with exactly the 18 keys of docs/FORMAT.md, or for `session` with `facts` and `commands`,",
@@ -330,68 +328,12 @@ static PLACES: [Wanted; 93] = [
         what: "an expression, which is its word or an array of its word and exactly its parts,",
     },
     Wanted {
-        path: b"bodies.#.exprs.#.1",
-        what: "a literal, a path, a label or null, an expression or a list of such, as the expression's kind asks,",
-    },
-    Wanted {
-        path: b"bodies.#.exprs.#.1.#",
-        what: "a part of the literal or of the path, or an expression's number, as the expression's kind asks,",
-    },
-    Wanted {
-        path: b"bodies.#.exprs.#.2",
-        what: "an expression, or a list of statements, arms or expressions, as the expression's kind asks,",
-    },
-    Wanted {
-        path: b"bodies.#.exprs.#.2.#",
-        what: "a statement, an arm or an expression, as the expression's kind asks,",
-    },
-    Wanted {
-        path: b"bodies.#.exprs.#.2.#.0",
-        what: "a pattern's number",
-    },
-    Wanted {
-        path: b"bodies.#.exprs.#.2.#.1",
-        what: "a pattern's number in a `let`, an expression's in a statement, a guard's or null in an arm",
-    },
-    Wanted {
-        path: b"bodies.#.exprs.#.2.#.2",
-        what: "an index into `types` or null in a `let`, true or false in a statement, an expression in an arm",
-    },
-    Wanted {
-        path: b"bodies.#.exprs.#.2.#.3",
-        what: MAYBE_EXPRESSION,
-    },
-    Wanted {
-        path: b"bodies.#.exprs.#.2.#.4",
-        what: MAYBE_EXPRESSION,
-    },
-    Wanted {
-        path: b"bodies.#.exprs.#.3",
-        what: MAYBE_EXPRESSION,
-    },
-    Wanted {
         path: b"bodies.#.pats",
         what: ANY_LIST,
     },
     Wanted {
         path: b"bodies.#.pats.#",
         what: "a pattern, which is its word or an array of its word and exactly its parts,",
-    },
-    Wanted {
-        path: b"bodies.#.pats.#.1",
-        what: "a binding's number, a list of patterns, a path or an expression's number, as the pattern's kind asks,",
-    },
-    Wanted {
-        path: b"bodies.#.pats.#.1.#",
-        what: "a pattern's number, or a part of the path, as the pattern's kind asks,",
-    },
-    Wanted {
-        path: b"bodies.#.pats.#.2",
-        what: "a pattern's number, a list of such, or null, as the pattern's kind asks,",
-    },
-    Wanted {
-        path: b"bodies.#.pats.#.2.#",
-        what: "a pattern's number",
     },
     Wanted {
         path: b"bodies.#.bindings",
@@ -415,24 +357,43 @@ fn after_digits(text: &[u8]) -> &[u8] {
     rest
 }
 
-/// Whether a path has the form of a pattern.
-pub fn fits(pattern: &[u8], path: &[u8]) -> bool {
+/// What follows the front of a path that has the form of a pattern.
+fn behind<'a>(pattern: &[u8], path: &'a [u8]) -> Option<&'a [u8]> {
     let mut rest = path;
     for wanted in pattern {
         if *wanted == b'#' {
             let after = after_digits(rest);
             if after.len() == rest.len() {
-                return false;
+                return None;
             }
             rest = after;
         } else {
             match rest {
                 [first, more @ ..] if first == wanted => rest = more,
-                _ => return false,
+                _ => return None,
             }
         }
     }
-    rest.is_empty()
+    Some(rest)
+}
+
+/// Whether a path has the form of a pattern.
+pub fn fits(pattern: &[u8], path: &[u8]) -> bool {
+    match behind(pattern, path) {
+        None => false,
+        Some(rest) => rest.is_empty(),
+    }
+}
+
+/// What is wanted below an expression or a pattern, whose kind says it.
+fn wanted_of_nodes(path: &[u8]) -> Option<&'static str> {
+    if behind(b"bodies.#.exprs.#.", path).is_some() {
+        Some("what the expression's kind has there")
+    } else if behind(b"bodies.#.pats.#.", path).is_some() {
+        Some("what the pattern's kind has there")
+    } else {
+        None
+    }
 }
 
 /// What a text has to have at a path: facts, or those of a session, below the key `facts`.
@@ -442,6 +403,9 @@ pub fn wanted_at(path: &str) -> &'static str {
         if fits(place.path, path) {
             return place.what;
         }
+    }
+    if let Some(what) = wanted_of_nodes(path) {
+        return what;
     }
     match wanted_of_traits(path) {
         Some(what) => what,

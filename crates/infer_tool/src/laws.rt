@@ -4,7 +4,7 @@ use hir_facts::{FactsList, Law};
 use serde_json::Value;
 use std::alloc::{AllocError, Global};
 use std::fmt;
-use told_bodies::{holes, limits, literals, scopes, sizes, trees};
+use told_bodies::{holes, kinds, limits, literals, scopes, sizes, trees};
 use told_items::{carried, counts, ids};
 use told_places::place::Place;
 
@@ -31,7 +31,7 @@ pub fn told_breach(
     list: FactsList,
     index: usize,
 ) -> Result<Option<String>, AllocError> {
-    if law == Law::Carried {
+    if law == Law::Carried && list != FactsList::Bodies {
         return told(alloc, law, carried::find(alloc, facts, list, index)?);
     }
     let Some(entry) = facts.get(list.key()).and_then(|list| list.get(index)) else {
@@ -39,7 +39,7 @@ pub fn told_breach(
     };
     let place = Place::new(list, index);
     match law {
-        Law::Carried => Ok(None),
+        Law::Carried => told(alloc, law, kinds::find(place, entry)),
         Law::Ids => told(alloc, law, ids::find(alloc, facts, list, index, entry)?),
         Law::Counts => told(alloc, law, counts::find(alloc, facts, list, index, entry)?),
         Law::Trees => told(alloc, law, trees::find(alloc, place, entry)?),
@@ -48,6 +48,6 @@ pub fn told_breach(
         Law::Limits => told(alloc, law, limits::find(facts, index)),
         Law::Lang => Ok(None),
         Law::Literals => told(alloc, law, literals::find(alloc, list, index, entry)?),
-        Law::Holes => told(alloc, law, holes::find(facts, index)),
+        Law::Holes => told(alloc, law, holes::find(alloc, facts, index)?),
     }
 }

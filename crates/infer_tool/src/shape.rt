@@ -4,6 +4,7 @@ use serde_json::Value;
 use serde_json::value::Map;
 use std::alloc::{AllocError, Global};
 use std::fmt;
+use told_bodies::shapes;
 use told_places::place::{Path, Quoted};
 
 /// The most bytes of a value that are shown.
@@ -196,6 +197,17 @@ fn told_wanted<'a>(path: &str, is_session: bool, wanted: &'a str) -> &'a str {
     }
 }
 
+/// What is wanted at a path of a body, by what stands around it.
+fn wanted_of_body(whole: &Value, path: &str, is_session: bool) -> Option<&'static str> {
+    if !is_session {
+        return shapes::wanted(whole, path);
+    }
+    match (whole.get("facts"), path.strip_prefix("facts.")) {
+        (Some(facts), Some(inner)) => shapes::wanted(facts, inner),
+        _ => None,
+    }
+}
+
 /// What stands at a path where another shape is wanted, of which the fault's own words tell.
 pub fn told_shape(
     alloc: Global,
@@ -212,12 +224,16 @@ pub fn told_shape(
     {
         return Ok(Some(told));
     }
+    let at = At(path);
+    let value = shown(alloc, value)?;
+    if let Some(wanted) = wanted_of_body(whole, path, is_session) {
+        let told = format!(in alloc; "{at} is {value}, and {wanted} is wanted")?;
+        return Ok(Some(told));
+    }
     match fault.split_once(" has another shape: ") {
         None => Ok(None),
         Some((_, wanted)) => {
             let wanted = told_wanted(path, is_session, wanted);
-            let at = At(path);
-            let value = shown(alloc, value)?;
             let told = format!(in alloc; "{at} is {value}, and {wanted}")?;
             Ok(Some(told))
         }

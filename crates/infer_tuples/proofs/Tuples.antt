@@ -17,7 +17,7 @@ element_demand g n es ts h is e m o r has =
     let z : 0 + i ≡ i = omega arith in
     let own : slice_get (exprs_from element 0 es) i ≡ Some (expr_part (element i) e)
     = expr_at element 0 es i e o.1 ∙ ap (λ j. Some (expr_part (element j) e)) z in
-    let p : part_at g.body (inner (node.ExprId n)) i ≡ Some (expr_part (element i) e) = ap (λ x. slice_get (parts_of_expr x) i) is ∙ own in
+    let p : part_at g.body (inner (node.ExprId n)) i ≡ Some (expr_part (element i) e) = ap (λ x. slice_get (parts_of_expr g.body x) i) is ∙ own in
     inl (record {
       parent = inner (node.ExprId n);
       at_part = i;

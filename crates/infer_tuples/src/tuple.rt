@@ -3,9 +3,9 @@ ghost use Rattle.std.specs.Prelude.{◌≡◌, IfOk, Some, None};
 ghost use Rattle.infer_tuples.specs.Words.{given_of, scope_in, schedule_of, expected_type, known_hole, IsFineExpectation, Before, CoerceDone, Within, KindDone, InfersFrom};
 ghost use Rattle.infer_tuples.specs.Own.{IsTupleOf};
 
-use infer_coerce::hir_facts::{ExprId, List, Ty};
-use infer_coerce::infer_ctx::{Expectation, GivenBody, InferenceContext};
+use hir_facts::{ExprId, List, Ty};
 use infer_coerce::{demand_coerce, infer_expr_coerce};
+use infer_ctx::{Expectation, GivenBody, InferenceContext};
 use std::alloc::{AllocError, Global};
 
 /// The type of a tuple, whose elements are expected to have the types of what is expected of

@@ -5,8 +5,8 @@ ghost use Rattle.infer_unify.specs.Own.{alias_of, aliases_of, HaveHeads, known_a
 
 use crate::opening::Alias;
 use crate::unification::Unification;
-use goal_facts::goal_search::{Answer, Asked, Holes, Kind, MOST_LEVELS, Search};
-use goal_facts::goal_terms::{Binding, MOST_DEPTH, Term, make_equal, stands_in};
+use goal_search::{Answer, Asked, Holes, Kind, MOST_LEVELS, Search};
+use goal_terms::{Binding, MOST_DEPTH, Term, make_equal, stands_in};
 use hir_types::{Head, Hole};
 use std::alloc::{AllocError, Global};
 

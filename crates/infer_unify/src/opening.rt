@@ -3,7 +3,7 @@ ghost use Rattle.std.specs.Prelude.{◌≡◌, ◌+◌, IfOk, OnOk};
 ghost use Rattle.infer_unify.specs.Words.{hole_number, term_of};
 ghost use Rattle.infer_unify.specs.Own.{aliases_of, IsOpened, IsPutFor, above, AreOpened};
 
-use goal_facts::goal_terms::Term;
+use goal_terms::Term;
 use hir_types::{Head, Hole, TypeAliasId};
 use std::alloc::{AllocError, Global};
 

@@ -5,9 +5,9 @@ ghost use Rattle.infer_unify.specs.Own.{UnifyExactly, IsExact, aliases_of, HaveH
 
 use crate::known::{follow_all, judge};
 use crate::opening::{OpenedBoth, open_both};
-use goal_facts::goal_search::Search;
-use goal_facts::goal_terms::{MOST_DEPTH, make_equal, type_term};
 use goal_facts::{Facts, GenericDefId, ItemSources, Ty};
+use goal_search::Search;
+use goal_terms::{MOST_DEPTH, make_equal, type_term};
 use hir_types::Canonical;
 use std::alloc::{AllocError, Global};
 

@@ -1,9 +1,12 @@
 //! Law 9: types with a `_` that are not used once, in a body.
 
+use hir_facts::FactsList;
 use serde_json::Value;
+use std::alloc::{AllocError, Global};
 use std::fmt;
-use told_places::hir_facts::FactsList;
-use told_places::look::{items, list, number, type_id, type_parts, word};
+use told_places::look::{items, list, number, type_id, type_parts};
+use told_places::mentions::Mention;
+use told_places::nodes::Nodes;
 use told_places::place::Place;
 
 /// How a type in which a `_` stands is used.
@@ -131,33 +134,36 @@ fn times_in_types(facts: &Value, ty: usize) -> usize {
     times
 }
 
-fn times_in_body(body: &Value, ty: usize) -> usize {
+fn times_in_body(alloc: Global, body: &Value, ty: usize) -> Result<usize, AllocError> {
+    let nodes = Nodes::of(body);
     let mut times = 0usize;
-    for expr in list(body, "exprs") {
-        if word(Some(expr)) == "block" {
-            for stmt in items(expr.get(2usize)) {
-                if word(Some(stmt)) == "let" && is(stmt.get(2usize), ty) {
-                    times = times.saturating_add(1);
-                }
+    for position in 0..nodes.count() {
+        for mention in nodes.mentions(alloc, nodes.at(position))? {
+            if mention == Mention::Type(ty) {
+                times = times.saturating_add(1);
             }
         }
     }
-    times
+    Ok(times)
 }
 
 /// How the type is used.
-pub fn find(facts: &Value, index: usize) -> Option<(Place, WrongUse)> {
+pub fn find(
+    alloc: Global,
+    facts: &Value,
+    index: usize,
+) -> Result<Option<(Place, WrongUse)>, AllocError> {
     let place = Place::new(FactsList::Types, index);
     if let Some(item) = item_of(facts, index).or(abstract_of(facts, index)) {
-        return Some((place, WrongUse::Item(item)));
+        return Ok(Some((place, WrongUse::Item(item))));
     }
     let mut times = times_in_types(facts, index);
     for body in list(facts, "bodies") {
-        times = times.saturating_add(times_in_body(body, index));
+        times = times.saturating_add(times_in_body(alloc, body, index)?);
     }
     if times == 1 {
-        None
+        Ok(None)
     } else {
-        Some((place, WrongUse::Times(times)))
+        Ok(Some((place, WrongUse::Times(times))))
     }
 }

@@ -1,8 +1,8 @@
 //! Law 6: limits that are not in their ranges.
 
+use hir_facts::FactsList;
 use serde_json::Value;
 use std::fmt;
-use told_places::hir_facts::FactsList;
 use told_places::look::{list, number};
 use told_places::place::Place;
 

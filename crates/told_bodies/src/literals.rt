@@ -1,11 +1,12 @@
-//! Law 8: literals without a value, and names of fields.
+//! Law 8: literals without a value, names of fields, `..` past the end, and places as patterns where nothing is assigned.
 
+use hir_facts::FactsList;
 use serde_json::Value;
 use std::alloc::{AllocError, Global};
 use std::fmt;
-use told_places::hir_facts::FactsList;
-use told_places::look::{list, number, word};
-use told_places::place::{Place, Quoted};
+use told_places::look::{items, list, number, word};
+use told_places::nodes::{Node, Nodes};
+use told_places::place::{Counted, Place, Quoted};
 
 /// What is wrong with a literal or the name of a field.
 #[derive(Clone, Copy)]
@@ -24,6 +25,10 @@ pub enum WrongValue<'a> {
     Char(usize),
     /// A pattern that is a literal is an expression that is one.
     Expr(usize),
+    /// `..` comes after no more patterns than there are.
+    Dots { dots: usize, count: usize },
+    /// A pattern that is a place is assigned to.
+    Place,
 }
 
 impl fmt::Display for WrongValue<'_> {
@@ -42,6 +47,14 @@ impl fmt::Display for WrongValue<'_> {
             }
             WrongValue::Char(code) => write!(f, "{code} is no Unicode scalar value"),
             WrongValue::Expr(expr) => write!(f, "expression {expr} is no literal"),
+            WrongValue::Dots { dots, count } => {
+                let dots = Counted(*dots, "pattern");
+                write!(f, "`..` comes after {dots}, and the list has {count}")
+            }
+            WrongValue::Place => write!(
+                f,
+                "the pattern is a place, and stands in no target of an assignment"
+            ),
         }
     }
 }
@@ -119,29 +132,104 @@ fn of_expr(expr: &Value, is_pattern: bool) -> Option<WrongValue<'_>> {
     }
 }
 
-/// Which expressions are the literals of patterns.
+fn mark(marks: &mut [bool], value: Option<&Value>) {
+    if let Some(at) = number(value)
+        && at < marks.len()
+    {
+        marks[at] = true;
+    }
+}
+
+/// Which expressions are the literals of patterns, or ends of ranges that are patterns.
 fn patterns_of(alloc: Global, body: &Value) -> Result<Vec<bool>, AllocError> {
     let mut patterns = vec![in alloc; false; list(body, "exprs").len()]?;
     for pat in list(body, "pats") {
-        if word(Some(pat)) == "lit"
-            && let Some(expr) = number(pat.get(1usize))
-            && expr < patterns.len()
-        {
-            patterns[expr] = true;
+        match word(Some(pat)) {
+            "lit" => mark(&mut patterns, pat.get(1usize)),
+            "range" => {
+                mark(&mut patterns, pat.get(1usize));
+                mark(&mut patterns, pat.get(2usize));
+            }
+            _ => {}
         }
     }
     Ok(patterns)
 }
 
-/// The first pattern that is a literal whose expression is none.
+/// Which patterns are targets of assignments, or parts of such by patterns alone.
+fn targets_of(alloc: Global, nodes: Nodes<'_>) -> Result<Vec<bool>, AllocError> {
+    let mut targets = vec![in alloc; false; nodes.pats.len()]?;
+    for expr in nodes.exprs {
+        if word(Some(expr)) == "assign" {
+            mark(&mut targets, expr.get(1usize));
+        }
+    }
+    for step in nodes.walk(alloc)? {
+        if let Node::Pat(pat) = step.node
+            && targets.get(pat).copied().unwrap_or(false)
+        {
+            for part in nodes.parts(alloc, step.node)? {
+                if let Node::Pat(inner) = part
+                    && inner < targets.len()
+                {
+                    targets[inner] = true;
+                }
+            }
+        }
+    }
+    Ok(targets)
+}
+
+/// The first pattern that is a place, and not assigned to.
+fn of_places(
+    alloc: Global,
+    place: Place,
+    body: &Value,
+) -> Result<Option<(Place, WrongValue<'_>)>, AllocError> {
+    let nodes = Nodes::of(body);
+    let targets = targets_of(alloc, nodes)?;
+    for (at, pat) in nodes.pats.iter().enumerate() {
+        if word(Some(pat)) == "expr" && !targets.get(at).copied().unwrap_or(false) {
+            return Ok(Some((place.item("pats", at), WrongValue::Place)));
+        }
+    }
+    Ok(None)
+}
+
+/// What is wrong with `..` after so many patterns of a list.
+fn of_dots(dots: Option<&Value>, pats: Option<&Value>) -> Option<WrongValue<'static>> {
+    let dots = number(dots)?;
+    let count = items(pats).len();
+    if dots <= count {
+        None
+    } else {
+        Some(WrongValue::Dots { dots, count })
+    }
+}
+
+/// What is wrong with a pattern alone.
+fn of_pat<'a>(exprs: &[Value], pat: &'a Value) -> Option<WrongValue<'a>> {
+    match word(Some(pat)) {
+        "tuple" => of_dots(pat.get(2usize), pat.get(1usize)),
+        "ctor" => of_dots(pat.get(3usize), pat.get(2usize)),
+        "lit" => {
+            let expr = number(pat.get(1usize))?;
+            if word(exprs.get(expr)) == "lit" {
+                None
+            } else {
+                Some(WrongValue::Expr(expr))
+            }
+        }
+        _ => None,
+    }
+}
+
+/// The first pattern that is wrong alone.
 fn of_pats(place: Place, body: &Value) -> Option<(Place, WrongValue<'_>)> {
     let exprs = list(body, "exprs");
     for (at, pat) in list(body, "pats").iter().enumerate() {
-        if word(Some(pat)) == "lit"
-            && let Some(expr) = number(pat.get(1usize))
-            && word(exprs.get(expr)) != "lit"
-        {
-            return Some((place.item("pats", at), WrongValue::Expr(expr)));
+        if let Some(wrong) = of_pat(exprs, pat) {
+            return Some((place.item("pats", at), wrong));
         }
     }
     None
@@ -159,7 +247,10 @@ fn of_body(
             return Ok(Some((place.item("exprs", at), wrong)));
         }
     }
-    Ok(of_pats(place, body))
+    match of_pats(place, body) {
+        Some(found) => Ok(Some(found)),
+        None => of_places(alloc, place, body),
+    }
 }
 
 /// The literal or name of the entry that is wrong.

@@ -4,6 +4,7 @@ use serde_json::Value;
 use std::alloc::{AllocError, Global};
 use std::fmt;
 use told_places::look::{list, number, word};
+use told_places::mentions::Mention;
 use told_places::nodes::{Node, Nodes};
 use told_places::place::Place;
 
@@ -36,49 +37,52 @@ fn times_of(alloc: Global, nodes: Nodes<'_>) -> Result<Vec<usize>, AllocError> {
     Ok(times)
 }
 
-/// The pattern that binds each binding.
-fn binders_of(alloc: Global, body: &Value) -> Result<Vec<Option<usize>>, AllocError> {
-    let mut binders = vec![in alloc; None; list(body, "bindings").len()]?;
-    for (at, pat) in list(body, "pats").iter().enumerate() {
+/// The pattern that binds each binding first on the walk.
+fn binders_of(
+    alloc: Global,
+    nodes: Nodes<'_>,
+    times: &[usize],
+) -> Result<Vec<Option<usize>>, AllocError> {
+    let mut binders: Vec<Option<usize>> = vec![in alloc; None; list(nodes.body, "bindings").len()]?;
+    for (at, pat) in nodes.pats.iter().enumerate() {
         if word(Some(pat)) == "bind"
             && let Some(binding) = number(pat.get(1usize))
             && binding < binders.len()
         {
-            binders[binding] = Some(at);
+            let is_first = match binders[binding] {
+                None => true,
+                Some(before) => time_of(nodes, times, at) < time_of(nodes, times, before),
+            };
+            if is_first {
+                binders[binding] = Some(at);
+            }
         }
     }
     Ok(binders)
 }
 
-/// The binding that an expression names as a local.
-fn local(expr: &Value) -> Option<usize> {
-    let path = expr.get(1usize)?;
-    if word(Some(expr)) == "path" && word(Some(path)) == "local" {
-        number(path.get(1usize))
-    } else {
-        None
-    }
+/// When the walk comes to a pattern.
+fn time_of(nodes: Nodes<'_>, times: &[usize], pat: usize) -> Option<usize> {
+    times.get(nodes.position(Node::Pat(pat))).copied()
 }
 
-fn of_expr(
+/// What is wrong where a node at a time names a binding.
+fn of_local(
     nodes: Nodes<'_>,
     times: &[usize],
     binders: &[Option<usize>],
-    at: usize,
-    expr: &Value,
+    named: usize,
+    binding: usize,
 ) -> Option<Early> {
-    let binding = local(expr)?;
     let pat = (*binders.get(binding)?)?;
-    let named = times.get(nodes.position(Node::Expr(at)))?;
-    let bound = times.get(nodes.position(Node::Pat(pat)))?;
-    if bound < named {
+    if time_of(nodes, times, pat)? < named || number(nodes.body.get("self")) == Some(binding) {
         None
     } else {
         Some(Early { binding, pat })
     }
 }
 
-/// The first expression of a body that names a binding too early.
+/// The first node of a body that names a binding too early.
 pub fn find(
     alloc: Global,
     place: Place,
@@ -86,10 +90,18 @@ pub fn find(
 ) -> Result<Option<(Place, Early)>, AllocError> {
     let nodes = Nodes::of(body);
     let times = times_of(alloc, nodes)?;
-    let binders = binders_of(alloc, body)?;
-    for (at, expr) in nodes.exprs.iter().enumerate() {
-        if let Some(early) = of_expr(nodes, &times, &binders, at, expr) {
-            return Ok(Some((place.item("exprs", at), early)));
+    let binders = binders_of(alloc, nodes, &times)?;
+    for position in 0..nodes.count() {
+        let node = nodes.at(position);
+        let Some(named) = times.get(position).copied() else {
+            continue;
+        };
+        for mention in nodes.mentions(alloc, node)? {
+            if let Mention::Local(binding) = mention
+                && let Some(early) = of_local(nodes, &times, &binders, named, binding)
+            {
+                return Ok(Some((nodes.place(place, node), early)));
+            }
         }
     }
     Ok(None)

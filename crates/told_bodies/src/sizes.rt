@@ -1,10 +1,11 @@
 //! Law 5: what is too long, too deep or too large.
 
+use hir_facts::FactsList;
 use serde_json::Value;
 use std::alloc::{AllocError, Global};
 use std::fmt;
-use told_places::hir_facts::FactsList;
-use told_places::look::{items, list, number, type_id, type_parts};
+use told_places::look::{list, number, type_id, type_parts};
+use told_places::mentions::Mention;
 use told_places::nodes::{Node, Nodes, Step};
 use told_places::place::Place;
 
@@ -21,6 +22,8 @@ const MOST_TYPES: usize = 4096;
 pub enum TooMuch {
     /// The list has an entry at this index.
     Entries(usize),
+    /// A body has so many labels.
+    Labels(usize),
     /// A node stands so deep.
     Steps { node: Node, depth: usize },
     /// A type has so many levels.
@@ -35,6 +38,10 @@ impl fmt::Display for TooMuch {
             TooMuch::Entries(index) => write!(
                 f,
                 "the list goes on to entry {index}, and {MOST_ENTRIES} entries are allowed"
+            ),
+            TooMuch::Labels(count) => write!(
+                f,
+                "the body has {count} labels, and {MOST_ENTRIES} are allowed"
             ),
             TooMuch::Steps { node, depth } => write!(
                 f,
@@ -119,10 +126,14 @@ fn of_type(
 }
 
 /// How long the longest list of a node is.
-fn longest(entry: &Value) -> usize {
-    items(entry.get(1usize))
-        .len()
-        .max(items(entry.get(2usize)).len())
+fn longest(alloc: Global, nodes: Nodes<'_>, node: Node) -> Result<usize, AllocError> {
+    let mut longest = 0usize;
+    for mention in nodes.mentions(alloc, node)? {
+        if let Mention::List(length) = mention {
+            longest = longest.max(length);
+        }
+    }
+    Ok(longest)
 }
 
 fn of_nodes(
@@ -133,9 +144,8 @@ fn of_nodes(
     let nodes = Nodes::of(body);
     for position in 0..nodes.count() {
         let node = nodes.at(position);
-        if let Some(entry) = nodes.entry(node)
-            && let Some(found) = of_length(nodes.place(place, node), longest(entry))
-        {
+        let length = longest(alloc, nodes, node)?;
+        if let Some(found) = of_length(nodes.place(place, node), length) {
             return Ok(Some(found));
         }
     }
@@ -159,7 +169,12 @@ fn of_body(
         &["traits", "params", "exprs", "pats", "bindings"],
     ) {
         Some(found) => Ok(Some(found)),
-        None => of_nodes(alloc, place, body),
+        None => match number(body.get("labels")) {
+            Some(count) if count > MOST_ENTRIES => {
+                Ok(Some((place.key("labels"), TooMuch::Labels(count))))
+            }
+            _ => of_nodes(alloc, place, body),
+        },
     }
 }
 

@@ -1,9 +1,10 @@
-//! Law 3: nodes that are no tree, and bindings that are not bound once.
+//! Law 3: nodes that are no tree, bindings that are not bound once, and labels that stand twice.
 
 use serde_json::Value;
 use std::alloc::{AllocError, Global};
 use std::fmt;
 use told_places::look::{list, number, word};
+use told_places::mentions::Mention;
 use told_places::nodes::{Node, Nodes};
 use told_places::place::Place;
 
@@ -38,11 +39,22 @@ pub enum WrongTree {
     Unreached(Node),
     /// No pattern binds a binding.
     Unbound(usize),
-    /// Two patterns bind a binding.
+    /// Two patterns bind a binding, and stand in different parts of no or-pattern.
     Rebound {
         binding: usize,
         first: usize,
         second: usize,
+    },
+    /// A pattern binds what is bound as `self`.
+    SelfBound {
+        binding: usize,
+        pat: usize,
+    },
+    /// A label stands at two nodes.
+    Relabelled {
+        label: usize,
+        first: Node,
+        second: Node,
     },
 }
 
@@ -70,6 +82,14 @@ impl fmt::Display for WrongTree {
                 f,
                 "binding {binding} is bound by pattern {first} and by pattern {second}"
             ),
+            WrongTree::SelfBound { binding, pat } => {
+                write!(f, "binding {binding} is `self`, and pattern {pat} binds it")
+            }
+            WrongTree::Relabelled {
+                label,
+                first,
+                second,
+            } => write!(f, "label {label} stands at {first} and at {second}"),
         }
     }
 }
@@ -135,29 +155,140 @@ fn of_nodes(alloc: Global, nodes: Nodes<'_>) -> Result<Option<WrongTree>, AllocE
     unreached(alloc, nodes)
 }
 
-/// The first binding that is not bound once, in a body without `self`.
-fn of_bindings(alloc: Global, body: &Value) -> Result<Option<(usize, WrongTree)>, AllocError> {
-    let count = list(body, "bindings").len();
-    let mut binders: Vec<Option<usize>> = vec![in alloc; None; count]?;
-    for (second, pat) in list(body, "pats").iter().enumerate() {
-        if word(Some(pat)) == "bind"
-            && let Some(binding) = number(pat.get(1usize))
+/// A node that the walk has come to, and when.
+#[derive(Clone, Copy)]
+struct Come {
+    node: Node,
+    time: usize,
+}
+
+fn is_or(nodes: Nodes<'_>, node: Node) -> bool {
+    match node {
+        Node::Expr(_) => false,
+        Node::Pat(_) => word(nodes.entry(node)) == "or",
+    }
+}
+
+/// Whether the node that the walk comes to, in these nodes, stands in another part of an or-pattern than one before.
+fn are_alternatives(nodes: Nodes<'_>, open: &[Come], before: Come) -> bool {
+    let above = open.partition_point(|whole| whole.time <= before.time);
+    match open[..above].last() {
+        None => false,
+        Some(whole) => is_or(nodes, whole.node),
+    }
+}
+
+fn bound(nodes: Nodes<'_>, node: Node) -> Option<usize> {
+    match (node, nodes.entry(node)) {
+        (Node::Pat(_), Some(pat)) if word(Some(pat)) == "bind" => number(pat.get(1usize)),
+        _ => None,
+    }
+}
+
+/// What is wrong where a pattern binds a binding that a pattern before it binds.
+fn again(
+    nodes: Nodes<'_>,
+    open: &[Come],
+    binding: usize,
+    first: Come,
+    second: Node,
+) -> Option<WrongTree> {
+    match (first.node, second) {
+        (Node::Pat(first_pat), Node::Pat(second)) if !are_alternatives(nodes, open, first) => {
+            Some(WrongTree::Rebound {
+                binding,
+                first: first_pat,
+                second,
+            })
+        }
+        _ => None,
+    }
+}
+
+/// The first binding that patterns bind twice in a tree, and which bindings are bound.
+fn of_binders(
+    alloc: Global,
+    nodes: Nodes<'_>,
+    binders: &mut Vec<Option<Come>>,
+) -> Result<Option<(usize, WrongTree)>, AllocError> {
+    let mut open: Vec<Come> = Vec::new(alloc);
+    for (time, step) in nodes.walk(alloc)?.iter().enumerate() {
+        open.truncate(step.depth.saturating_sub(1));
+        let come = Come {
+            node: step.node,
+            time,
+        };
+        if let Some(binding) = bound(nodes, step.node)
             && binding < binders.len()
         {
-            if let Some(first) = binders[binding] {
-                let wrong = WrongTree::Rebound {
-                    binding,
-                    first,
-                    second,
-                };
+            if let Some(first) = binders[binding]
+                && let Some(wrong) = again(nodes, &open, binding, first, step.node)
+            {
                 return Ok(Some((binding, wrong)));
             }
-            binders[binding] = Some(second);
+            binders[binding] = Some(come);
+        }
+        open.push(come)?;
+    }
+    Ok(None)
+}
+
+/// What is wrong with how a binding is bound, where that is not twice by patterns.
+fn of_binding(self_: Option<usize>, binding: usize, binder: Option<Come>) -> Option<WrongTree> {
+    match binder {
+        None if self_ == Some(binding) => None,
+        None => Some(WrongTree::Unbound(binding)),
+        Some(
+            Come {
+                node: Node::Pat(pat),
+                ..
+            },
+        ) if self_ == Some(binding) => Some(WrongTree::SelfBound { binding, pat }),
+        Some(_) => None,
+    }
+}
+
+/// The first binding that is not bound as it has to be.
+fn of_bindings(alloc: Global, nodes: Nodes<'_>) -> Result<Option<(usize, WrongTree)>, AllocError> {
+    let count = list(nodes.body, "bindings").len();
+    let mut binders: Vec<Option<Come>> = vec![in alloc; None; count]?;
+    if let Some(found) = of_binders(alloc, nodes, &mut binders)? {
+        return Ok(Some(found));
+    }
+    let self_ = number(nodes.body.get("self"));
+    for (binding, binder) in binders.iter().enumerate() {
+        if let Some(wrong) = of_binding(self_, binding, *binder) {
+            return Ok(Some((binding, wrong)));
         }
     }
-    for (binding, binder) in binders.iter().enumerate() {
-        if binder.is_none() {
-            return Ok(Some((binding, WrongTree::Unbound(binding))));
+    Ok(None)
+}
+
+/// The first label that stands at two nodes.
+fn of_labels(alloc: Global, nodes: Nodes<'_>) -> Result<Option<(Node, WrongTree)>, AllocError> {
+    let count = number(nodes.body.get("labels")).unwrap_or(0);
+    let mut firsts: Vec<(usize, Node)> = Vec::new(alloc);
+    for position in 0..nodes.count() {
+        let node = nodes.at(position);
+        for mention in nodes.mentions(alloc, node)? {
+            if let Mention::Label(label) = mention
+                && label < count
+            {
+                firsts.push((label, node))?;
+            }
+        }
+    }
+    firsts.sort_by_key(|at| at.0)?;
+    for pair in firsts.windows(2) {
+        if let [(label, first), (again, second)] = pair
+            && label == again
+        {
+            let wrong = WrongTree::Relabelled {
+                label: *label,
+                first: *first,
+                second: *second,
+            };
+            return Ok(Some((*second, wrong)));
         }
     }
     Ok(None)
@@ -174,13 +305,13 @@ pub fn find(
         let place = match wrong {
             WrongTree::Shared { node, .. } => nodes.place(place, node),
             WrongTree::Loose(node) | WrongTree::Unreached(node) => nodes.place(place, node),
-            WrongTree::Unbound(_) | WrongTree::Rebound { .. } => place,
+            _ => place,
         };
         return Ok(Some((place, wrong)));
     }
-    if number(body.get("self")).is_some() {
-        return Ok(None);
+    if let Some((binding, wrong)) = of_bindings(alloc, nodes)? {
+        return Ok(Some((place.item("bindings", binding), wrong)));
     }
-    let found = of_bindings(alloc, body)?;
-    Ok(found.map(|(binding, wrong)| (place.item("bindings", binding), wrong)))
+    let found = of_labels(alloc, nodes)?;
+    Ok(found.map(|(node, wrong)| (nodes.place(place, node), wrong)))
 }

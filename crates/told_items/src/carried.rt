@@ -1,9 +1,9 @@
-//! Law 0: what is not carried yet.
+//! Law 0 of items: what is not carried yet.
 
+use hir_facts::FactsList;
 use serde_json::Value;
 use std::alloc::{AllocError, Global};
 use std::fmt;
-use told_places::hir_facts::FactsList;
 use told_places::look::{is_there, items, list, number, type_id, type_parts, word};
 use told_places::place::Place;
 
@@ -24,8 +24,6 @@ impl fmt::Display for Uncarried<'_> {
         }
     }
 }
-
-const WRITTEN_ARGUMENTS: Uncarried<'static> = Uncarried::Form("written arguments of paths");
 
 const CONST_ARGUMENTS: Uncarried<'static> = Uncarried::Form("const arguments of traits");
 
@@ -178,87 +176,6 @@ fn of_fn<'a>(place: Place, function: &'a Value) -> Option<(Place, Uncarried<'a>)
     }
 }
 
-fn of_path(path: Option<&Value>) -> Option<Uncarried<'_>> {
-    match word(path) {
-        "local" | "fn" | "ctor" | "variant" => {
-            if is_there(path?.get(2usize)) {
-                Some(WRITTEN_ARGUMENTS)
-            } else {
-                None
-            }
-        }
-        word => Some(Uncarried::Kind(word, "paths")),
-    }
-}
-
-fn has_else(stmt: &Value) -> bool {
-    word(Some(stmt)) == "let" && is_there(stmt.get(4usize))
-}
-
-fn of_expr(expr: &Value) -> Option<Uncarried<'_>> {
-    match word(Some(expr)) {
-        "lit" => match word(expr.get(1usize)) {
-            "bool" | "char" | "int" => None,
-            word => Some(Uncarried::Kind(word, "literals")),
-        },
-        "path" => of_path(expr.get(1usize)),
-        "block" if is_there(expr.get(1usize)) => Some(Uncarried::Form("labelled blocks")),
-        "block" if items(expr.get(2usize)).iter().any(|stmt| has_else(stmt)) => {
-            Some(Uncarried::Form("`let` statements with `else`"))
-        }
-        "match" if items(expr.get(2usize)).is_empty() => {
-            Some(Uncarried::Form("`match` expressions without arms"))
-        }
-        "block" | "match" | "tuple" | "if" | "call" => None,
-        word => Some(Uncarried::Kind(word, "expressions")),
-    }
-}
-
-fn of_pat(pat: &Value) -> Option<Uncarried<'_>> {
-    match word(Some(pat)) {
-        "bind" if is_there(pat.get(2usize)) => Some(Uncarried::Form("patterns after `@`")),
-        "tuple" if is_there(pat.get(2usize)) => Some(Uncarried::Form("`..` in patterns")),
-        "ctor" if is_there(pat.get(3usize)) => Some(Uncarried::Form("`..` in patterns")),
-        "ctor" => of_path(pat.get(1usize)),
-        "path" => match word(pat.get(1usize)) {
-            "ctor" => of_path(pat.get(1usize)),
-            word => Some(Uncarried::Kind(word, "paths as patterns")),
-        },
-        "wild" | "bind" | "tuple" | "lit" => None,
-        word => Some(Uncarried::Kind(word, "patterns")),
-    }
-}
-
-fn of_binding(binding: &Value) -> Option<Uncarried<'_>> {
-    match word(binding.get(1usize)) {
-        "plain" | "mut" => None,
-        word => Some(Uncarried::Kind(word, "bindings")),
-    }
-}
-
-fn of_body<'a>(place: Place, body: &'a Value) -> Option<(Place, Uncarried<'a>)> {
-    for (at, expr) in list(body, "exprs").iter().enumerate() {
-        if let Some(found) = of_expr(expr) {
-            return Some((place.item("exprs", at), found));
-        }
-    }
-    for (at, pat) in list(body, "pats").iter().enumerate() {
-        if let Some(found) = of_pat(pat) {
-            return Some((place.item("pats", at), found));
-        }
-    }
-    for (at, binding) in list(body, "bindings").iter().enumerate() {
-        if let Some(found) = of_binding(binding) {
-            return Some((place.item("bindings", at), found));
-        }
-    }
-    if number(body.get("self")).is_some() {
-        Some((place.key("self"), Uncarried::Form("bodies with `self`")))
-    } else {
-        None
-    }
-}
-
 /// What the entries of a list are that has no kind that is carried.
 fn unread(list: FactsList) -> Option<&'static str> {
     match list {
@@ -291,7 +208,6 @@ fn of_entry<'a>(
         FactsList::Traits => of_members(place, entry),
         FactsList::Aliases => of_goals(place, entry, "bounds"),
         FactsList::Impls => of_impl(place, entry),
-        FactsList::Bodies => of_body(place, entry),
         _ => None,
     }
 }

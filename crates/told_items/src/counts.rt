@@ -1,10 +1,12 @@
 //! Law 2: counts that do not fit.
 
+use hir_facts::FactsList;
 use serde_json::Value;
 use std::alloc::{AllocError, Global};
 use std::fmt;
-use told_places::hir_facts::FactsList;
 use told_places::look::{items, list, number, type_id, type_parts, word};
+use told_places::mentions::Mention;
+use told_places::nodes::Nodes;
 use told_places::place::{Counted, Place};
 
 /// Counts that do not fit.
@@ -30,6 +32,8 @@ pub enum WrongCount {
         param: usize,
         count: usize,
     },
+    /// A body names a const parameter, and no item with one is carried yet.
+    ConstParam(usize),
 }
 
 impl fmt::Display for WrongCount {
@@ -59,6 +63,12 @@ impl fmt::Display for WrongCount {
             WrongCount::Param { ty, param, count } => {
                 let count = Counted(*count, "type parameter");
                 write!(f, "type {ty} is parameter {param}, the item has {count}")
+            }
+            WrongCount::ConstParam(number) => {
+                write!(
+                    f,
+                    "parameter {number} is named as a const, and the item has none that is one"
+                )
             }
         }
     }
@@ -127,35 +137,38 @@ fn wrongs_of(
     Ok(wrongs)
 }
 
-/// The first `let` of an expression whose type is wrong.
-fn of_lets(wrongs: &[Option<WrongCount>], expr: &Value) -> Option<WrongCount> {
-    if word(Some(expr)) != "block" {
-        return None;
+/// What is wrong with a type or a const that a node of a body names.
+fn of_mention(wrongs: &[Option<WrongCount>], mention: Mention) -> Option<WrongCount> {
+    match mention {
+        Mention::Type(ty) => *wrongs.get(ty)?,
+        Mention::Param(number) => Some(WrongCount::ConstParam(number)),
+        _ => None,
     }
-    for stmt in items(expr.get(2usize)) {
-        if word(Some(stmt)) == "let"
-            && let Some(wrong) = at_part(wrongs, stmt.get(2usize))
-        {
-            return Some(wrong);
-        }
-    }
-    None
 }
 
 fn of_body(
+    alloc: Global,
     wrongs: &[Option<WrongCount>],
     facts: &Value,
     body: Option<&Value>,
-) -> Option<(Place, WrongCount)> {
-    let body = number(body)?;
-    let place = Place::new(FactsList::Bodies, body);
-    let exprs = list(list(facts, "bodies").get(body)?, "exprs");
-    for (at, expr) in exprs.iter().enumerate() {
-        if let Some(wrong) = of_lets(wrongs, expr) {
-            return Some((place.item("exprs", at), wrong));
+) -> Result<Option<(Place, WrongCount)>, AllocError> {
+    let Some(index) = number(body) else {
+        return Ok(None);
+    };
+    let Some(body) = list(facts, "bodies").get(index) else {
+        return Ok(None);
+    };
+    let place = Place::new(FactsList::Bodies, index);
+    let nodes = Nodes::of(body);
+    for position in 0..nodes.count() {
+        let node = nodes.at(position);
+        for mention in nodes.mentions(alloc, node)? {
+            if let Some(wrong) = of_mention(wrongs, mention) {
+                return Ok(Some((nodes.place(place, node), wrong)));
+            }
         }
     }
-    None
+    Ok(None)
 }
 
 fn of_inputs(facts: &Value, place: Place, function: &Value) -> Option<(Place, WrongCount)> {
@@ -193,8 +206,10 @@ fn of_fn(
         return Ok(Some(found));
     }
     let wrongs = wrongs_of(alloc, facts, list(function, "params").len())?;
-    let found = of_signature(&wrongs, place, function);
-    Ok(found.or(of_body(&wrongs, facts, function.get("body"))))
+    match of_signature(&wrongs, place, function) {
+        Some(found) => Ok(Some(found)),
+        None => of_body(alloc, &wrongs, facts, function.get("body")),
+    }
 }
 
 fn of_fields(

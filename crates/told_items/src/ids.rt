@@ -1,11 +1,12 @@
 //! Law 1: ids that are out of range, and lists that do not agree.
 
 use crate::goal_ids::{of_alias, of_goals, of_impl, of_trait};
+use hir_facts::FactsList;
 use serde_json::Value;
 use std::alloc::{AllocError, Global};
 use std::fmt;
-use told_places::hir_facts::FactsList;
-use told_places::look::{items, list, number, type_id, type_parts, word};
+use told_places::look::{list, number, type_id, type_parts, word};
+use told_places::mentions::Mention;
 use told_places::nodes::{Node, Nodes};
 use told_places::place::Place;
 
@@ -20,9 +21,12 @@ pub enum Named {
     Trait,
     Alias,
     Body,
+    Const,
+    Static,
     Expr,
     Pat,
     Binding,
+    Label,
 }
 
 impl fmt::Display for Named {
@@ -36,9 +40,12 @@ impl fmt::Display for Named {
             Named::Trait => "trait",
             Named::Alias => "associated type",
             Named::Body => "body",
+            Named::Const => "const",
+            Named::Static => "static",
             Named::Expr => "expression",
             Named::Pat => "pattern",
             Named::Binding => "binding",
+            Named::Label => "label",
         })
     }
 }
@@ -47,9 +54,10 @@ impl Named {
     /// What has those that are counted, and its verb.
     fn owner(self) -> &'static str {
         match self {
-            Named::Expr | Named::Pat | Named::Binding => "the body has",
+            Named::Expr | Named::Pat | Named::Binding | Named::Label => "the body has",
             Named::Type | Named::Module | Named::Adt | Named::Variant => "the facts have",
             Named::Fn | Named::Trait | Named::Alias | Named::Body => "the facts have",
+            Named::Const | Named::Static => "the facts have",
         }
     }
 }
@@ -86,6 +94,8 @@ pub enum WrongId {
     Listed(usize),
     /// So many definitions have the body.
     Owned(usize),
+    /// The constructor `Self` of an impl is named outside of it.
+    OutsideImpl(usize),
 }
 
 impl fmt::Display for WrongId {
@@ -122,13 +132,18 @@ impl fmt::Display for WrongId {
             WrongId::Listed(times) => write!(f, "adts list it {times} times"),
             WrongId::Owned(0) => write!(f, "it is the body of no definition"),
             WrongId::Owned(times) => write!(f, "it is the body of {times} definitions"),
+            WrongId::OutsideImpl(number) => {
+                write!(
+                    f,
+                    "the constructor `Self` of impl {number} is named outside of it"
+                )
+            }
         }
     }
 }
 
-/// An id past the end.
-pub fn beyond(named: Named, value: Option<&Value>, count: usize) -> Option<WrongId> {
-    let number = number(value)?;
+/// A number past the end.
+fn beyond_count(named: Named, number: usize, count: usize) -> Option<WrongId> {
     if number < count {
         None
     } else {
@@ -138,6 +153,11 @@ pub fn beyond(named: Named, value: Option<&Value>, count: usize) -> Option<Wrong
             count,
         })
     }
+}
+
+/// An id past the end.
+pub fn beyond(named: Named, value: Option<&Value>, count: usize) -> Option<WrongId> {
+    beyond_count(named, number(value)?, count)
 }
 
 /// An id past the end, or not before the entry that names it.
@@ -269,18 +289,9 @@ fn of_fn(facts: &Value, place: Place, function: &Value) -> Option<(Place, WrongI
 }
 
 fn beyond_body(nodes: Nodes<'_>, node: Node) -> Option<WrongId> {
-    let (named, number, count) = match node {
-        Node::Expr(number) => (Named::Expr, number, nodes.exprs.len()),
-        Node::Pat(number) => (Named::Pat, number, nodes.pats.len()),
-    };
-    if number < count {
-        None
-    } else {
-        Some(WrongId::Beyond {
-            named,
-            number,
-            count,
-        })
+    match node {
+        Node::Expr(number) => beyond_count(Named::Expr, number, nodes.exprs.len()),
+        Node::Pat(number) => beyond_count(Named::Pat, number, nodes.pats.len()),
     }
 }
 
@@ -293,42 +304,38 @@ fn first_beyond(nodes: Nodes<'_>, parts: &[Node]) -> Option<WrongId> {
     None
 }
 
-/// What a path names that is out of range.
-fn of_path(facts: &Value, body: &Value, path: Option<&Value>) -> Option<WrongId> {
-    let path = path?;
-    let named = path.get(1usize);
-    match word(Some(path)) {
-        "local" => beyond(Named::Binding, named, list(body, "bindings").len()),
-        "fn" => beyond(Named::Fn, named, list(facts, "fns").len()),
-        "ctor" | "variant" => beyond(Named::Variant, named, list(facts, "variants").len()),
-        _ => None,
-    }
+/// What a node names that is out of range.
+fn of_mention(facts: &Value, body: &Value, mention: Mention) -> Option<WrongId> {
+    let (named, number, count) = match mention {
+        Mention::Type(ty) => (Named::Type, ty, list(facts, "types").len()),
+        Mention::Local(v) | Mention::Binds(v) => (Named::Binding, v, list(body, "bindings").len()),
+        Mention::Function(function) => (Named::Fn, function, list(facts, "fns").len()),
+        Mention::Variant(variant) => (Named::Variant, variant, list(facts, "variants").len()),
+        Mention::Const(item) => (Named::Const, item, list(facts, "consts").len()),
+        Mention::Static(item) => (Named::Static, item, list(facts, "statics").len()),
+        Mention::Trait(item) => (Named::Trait, item, list(facts, "traits").len()),
+        Mention::Label(label) | Mention::Left(label) => {
+            (Named::Label, label, number(body.get("labels"))?)
+        }
+        Mention::Impl(number) => return Some(WrongId::OutsideImpl(number)),
+        Mention::Param(_) | Mention::List(_) => return None,
+    };
+    beyond_count(named, number, count)
 }
 
-/// What an expression or a pattern names that is no node of the body.
-fn of_names(facts: &Value, body: &Value, node: Node, entry: &Value) -> Option<WrongId> {
-    match (node, word(Some(entry))) {
-        (_, "path") | (Node::Pat(_), "ctor") => of_path(facts, body, entry.get(1usize)),
-        (Node::Pat(_), "bind") => {
-            beyond(
-                Named::Binding,
-                entry.get(1usize),
-                list(body, "bindings").len(),
-            )
+/// The first thing that a node names, and that is no node, out of range.
+fn of_names(
+    alloc: Global,
+    facts: &Value,
+    nodes: Nodes<'_>,
+    node: Node,
+) -> Result<Option<WrongId>, AllocError> {
+    for mention in nodes.mentions(alloc, node)? {
+        if let Some(wrong) = of_mention(facts, nodes.body, mention) {
+            return Ok(Some(wrong));
         }
-        (Node::Expr(_), "block") => {
-            let types = list(facts, "types").len();
-            for stmt in items(entry.get(2usize)) {
-                if word(Some(stmt)) == "let"
-                    && let Some(wrong) = beyond(Named::Type, stmt.get(2usize), types)
-                {
-                    return Some(wrong);
-                }
-            }
-            None
-        }
-        _ => None,
     }
+    Ok(None)
 }
 
 /// What of the body's own is out of range.
@@ -375,10 +382,7 @@ fn of_body(
     for position in 0..nodes.count() {
         let node = nodes.at(position);
         let parts = nodes.parts(alloc, node)?;
-        let named = match nodes.entry(node) {
-            Some(entry) => of_names(facts, body, node, entry),
-            None => None,
-        };
+        let named = of_names(alloc, facts, nodes, node)?;
         if let Some(wrong) = first_beyond(nodes, &parts).or(named) {
             return Ok(Some((nodes.place(place, node), wrong)));
         }

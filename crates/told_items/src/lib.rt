@@ -5,5 +5,3 @@ pub mod carried;
 pub mod counts;
 pub mod goal_ids;
 pub mod ids;
-
-pub use told_places;

@@ -2,7 +2,6 @@
 #![tactic(auto)]
 
 pub mod look;
+pub mod mentions;
 pub mod nodes;
 pub mod place;
-
-pub use hir_facts;

@@ -1,6 +1,7 @@
 //! The nodes of a body and what they are made of, from the text again.
 
 use crate::look::{items, list, number, word};
+use crate::mentions::{Mention, push_mentions};
 use crate::place::Place;
 use serde_json::Value;
 use std::alloc::{AllocError, Global};
@@ -89,36 +90,132 @@ fn push_arms(out: &mut Vec<Node>, arms: &[Value]) -> Result<(), AllocError> {
     Ok(())
 }
 
-fn push_expr_parts(out: &mut Vec<Node>, expr: &Value) -> Result<(), AllocError> {
+/// The expressions of the fields of a record.
+fn push_fields(out: &mut Vec<Node>, fields: &[Value]) -> Result<(), AllocError> {
+    for field in fields {
+        push_expr(out, field.get(1usize))?;
+    }
+    Ok(())
+}
+
+/// The patterns that stand in entries of a list, each at a position.
+fn push_pats_at(out: &mut Vec<Node>, entries: &[Value], at: usize) -> Result<(), AllocError> {
+    for entry in entries {
+        push_pat(out, entry.get(at))?;
+    }
+    Ok(())
+}
+
+/// Arguments, of which the closures come last.
+fn push_args(out: &mut Vec<Node>, nodes: Nodes<'_>, args: &[Value]) -> Result<(), AllocError> {
+    for is_last in [false, true] {
+        for arg in args {
+            if nodes.is_closure(arg) == is_last {
+                push_expr(out, Some(arg))?;
+            }
+        }
+    }
+    Ok(())
+}
+
+/// An assignment's target and its value: a place comes first, any other target last.
+fn push_assigned(out: &mut Vec<Node>, nodes: Nodes<'_>, expr: &Value) -> Result<(), AllocError> {
+    let (target, value) = (expr.get(1usize), expr.get(2usize));
+    if nodes.is_place(target) {
+        push_pat(out, target)?;
+        push_expr(out, value)
+    } else {
+        push_expr(out, value)?;
+        push_pat(out, target)
+    }
+}
+
+/// The expressions at some positions of an entry.
+fn push_at(out: &mut Vec<Node>, entry: &Value, positions: &[usize]) -> Result<(), AllocError> {
+    for at in positions {
+        push_expr(out, entry.get(*at))?;
+    }
+    Ok(())
+}
+
+fn push_expr_parts(out: &mut Vec<Node>, nodes: Nodes<'_>, expr: &Value) -> Result<(), AllocError> {
     match word(Some(expr)) {
         "block" => {
             push_stmts(out, items(expr.get(2usize)))?;
             push_expr(out, expr.get(3usize))
         }
-        "tuple" => push_exprs(out, items(expr.get(1usize))),
-        "if" => {
-            push_expr(out, expr.get(1usize))?;
-            push_expr(out, expr.get(2usize))?;
-            push_expr(out, expr.get(3usize))
+        "unsafe" => {
+            push_stmts(out, items(expr.get(1usize)))?;
+            push_expr(out, expr.get(2usize))
         }
+        "tuple" | "array" => push_exprs(out, items(expr.get(1usize))),
         "match" => {
             push_expr(out, expr.get(1usize))?;
             push_arms(out, items(expr.get(2usize)))
         }
         "call" => {
             push_expr(out, expr.get(1usize))?;
-            push_exprs(out, items(expr.get(2usize)))
+            push_args(out, nodes, items(expr.get(2usize)))
         }
-        _ => Ok(()),
+        "method" => {
+            push_expr(out, expr.get(1usize))?;
+            push_args(out, nodes, items(expr.get(4usize)))
+        }
+        "record" => {
+            push_fields(out, items(expr.get(2usize)))?;
+            push_expr(out, expr.get(3usize))
+        }
+        "let" => {
+            push_expr(out, expr.get(2usize))?;
+            push_pat(out, expr.get(1usize))
+        }
+        "assign" => push_assigned(out, nodes, expr),
+        "closure" => {
+            push_pats_at(out, items(expr.get(1usize)), 0)?;
+            push_expr(out, expr.get(3usize))
+        }
+        word => push_at(out, expr, operands(word)),
+    }
+}
+
+/// Where the expressions stand that one of such a word is made of, in no list.
+fn operands(word: &str) -> &'static [usize] {
+    match word {
+        "if" => &[1, 2, 3],
+        "const" | "field" | "return" | "become" | "cast" | "box" => &[1],
+        "loop" | "break" | "un" => &[2],
+        "ref" => &[3],
+        "bin" | "range" => &[2, 3],
+        "index" | "repeat" => &[1, 2],
+        _ => &[],
     }
 }
 
 fn push_pat_parts(out: &mut Vec<Node>, pat: &Value) -> Result<(), AllocError> {
     match word(Some(pat)) {
-        "tuple" => push_pats(out, items(pat.get(1usize))),
+        "bind" | "ref" => push_pat(out, pat.get(2usize)),
+        "box" => push_pat(out, pat.get(1usize)),
+        "tuple" | "or" => push_pats(out, items(pat.get(1usize))),
         "ctor" => push_pats(out, items(pat.get(2usize))),
-        "lit" => push_expr(out, pat.get(1usize)),
+        "record" => push_pats_at(out, items(pat.get(2usize)), 1),
+        "slice" => {
+            push_pats(out, items(pat.get(1usize)))?;
+            push_pat(out, pat.get(2usize))?;
+            push_pats(out, items(pat.get(3usize)))
+        }
+        "range" => push_at(out, pat, &[1, 2]),
+        "lit" | "const" | "expr" => push_expr(out, pat.get(1usize)),
         _ => Ok(()),
+    }
+}
+
+/// Whether such an expression is a place: a local, a static, `_`, a dereference, a field or an index.
+fn is_place_expr(expr: &Value) -> bool {
+    match word(Some(expr)) {
+        "_" | "field" | "index" => true,
+        "un" => word(expr.get(1usize)) == "deref",
+        "path" => matches!(word(expr.get(1usize)), "local" | "static"),
+        _ => false,
     }
 }
 
@@ -129,6 +226,27 @@ impl<'a> Nodes<'a> {
             body,
             exprs: list(body, "exprs"),
             pats: list(body, "pats"),
+        }
+    }
+
+    /// The expression with this number.
+    pub fn expr(self, value: Option<&Value>) -> Option<&'a Value> {
+        self.exprs.get(number(value)?)
+    }
+
+    /// Whether the expression with this number is a closure.
+    fn is_closure(self, value: &Value) -> bool {
+        word(self.expr(Some(value))) == "closure"
+    }
+
+    /// Whether the pattern with this number is an expression that is a place.
+    fn is_place(self, value: Option<&Value>) -> bool {
+        let Some(pat) = number(value).and_then(|pat| self.pats.get(pat)) else {
+            return false;
+        };
+        match self.expr(pat.get(1usize)) {
+            Some(expr) if word(Some(pat)) == "expr" => is_place_expr(expr),
+            _ => false,
         }
     }
 
@@ -183,7 +301,7 @@ impl<'a> Nodes<'a> {
         match node {
             Node::Expr(expr) => {
                 if let Some(expr) = self.exprs.get(expr) {
-                    push_expr_parts(&mut out, expr)?;
+                    push_expr_parts(&mut out, self, expr)?;
                 }
             }
             Node::Pat(pat) => {
@@ -191,6 +309,15 @@ impl<'a> Nodes<'a> {
                     push_pat_parts(&mut out, pat)?;
                 }
             }
+        }
+        Ok(out)
+    }
+
+    /// What a node names besides its parts.
+    pub fn mentions(self, alloc: Global, node: Node) -> Result<Vec<Mention>, AllocError> {
+        let mut out = Vec::new(alloc);
+        if let Some(entry) = self.entry(node) {
+            push_mentions(&mut out, node, entry)?;
         }
         Ok(out)
     }

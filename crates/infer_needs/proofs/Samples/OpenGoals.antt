@@ -3,7 +3,7 @@
 use Rattle.std.proofs.Common.{ℕ, zero, suc, ◌≡◌, inl, inr, [], ◌∷◌, sym, ap, subst, ◌∙◌, true≢false, Some, slice_get}
 use Rattle.hir_types.specs.declared.head.Head.TheVariants as head
 use Rattle.hir_types.specs.declared.head.Hole.TheVariants as hole_of
-use Rattle.infer_needs.specs.Words.{ExprOrPatId, Ty, Term, hole, leaf, pair, node, type_part, apply, term, term_error, term_tuple, RawLiteral, Fill, IsFilling, IsRead, Aliases, Reads, Asked, System, Verdicts, implements, projects, only, asked_at, IsKnown, Each, IsApart, RuleIsRefuted, HasNoSource, answers, asked_goal, InferenceResult, opened_goal, CannotHold, MayHold, HoldsUnknown, HoldsNoHole, IsTrueUnproved}
+use Rattle.infer_needs.specs.Words.{ExprOrPatId, Ty, Term, hole, leaf, pair, node, type_part, apply, term, term_error, term_tuple, RawLiteral, Fill, IsFilling, IsRead, Aliases, Reads, Asked, System, Verdicts, implements, projects, only, asked_at, IsKnown, Each, IsApart, RuleIsRefuted, HasNoSource, answers, asked_goal, InferenceResult, opened_goal, CannotHold, MayHold, HoldsUnknown, HoldsNoHole, IsTrueUnproved, Scope, HasCause}
 use Rattle.hir_types.specs.declared.ty.Ty.TheVariants as ty
 use Rattle.hir_types.specs.declared.ty.UintTy.TheVariants as uint
 use Rattle.infer_needs.specs.Words.hir_raw.declared.raw.RawLiteral.TheVariants as literal
@@ -64,9 +64,9 @@ answer_is_no n t read =
 pub cannot_hold : (n : ℕ) → CannotHold sources (suc n) (implemented (alone unknown))
 cannot_hold n = answer_is_no n (hole (hole_of.Ty 0)) tt
 
--- so it isn't passed over
-pub may_not : (n : ℕ) → MayHold sources (suc n) (implemented (alone unknown)) → ⊥
-may_not n h = h.1 (cannot_hold n)
+-- so it isn't passed over, in whatever scope
+pub may_not : (sc : Scope) (n : ℕ) → MayHold sc sources (suc n) (implemented (alone unknown)) → ⊥
+may_not sc n h = h.1 (inl (cannot_hold n))
 
 -- ---- the hole in the place of a type alone is not known
 
@@ -78,8 +78,13 @@ not_refuted : (n : ℕ) → CannotHold sources n (implemented unknown) → ⊥
 not_refuted zero (x, reads, among, no_at) = not_known (answers sources 0).Alias x reads no_at.0
 not_refuted (suc n) (x, reads, no_at) = not_known (answers sources (suc n)).Alias x reads no_at.0
 
-pub may_hold : (n : ℕ) → MayHold sources n (implemented unknown)
-may_hold n = (inl (inr (inl tt)), not_refuted n)
+-- and it is about no associated type
+no_cause : (sc : Scope) (n : ℕ) → HasCause sc sources n (implemented unknown) → ⊥
+no_cause sc n (inl h) = not_refuted n h
+no_cause sc n (inr h) = (let clash : projects h.alias ≡ implements tr = ap (λ (x : Asked). x.kind) h.is in cc)
+
+pub may_hold : (sc : Scope) (n : ℕ) → MayHold sc sources n (implemented unknown)
+may_hold sc n = (inl (inr (inl tt)), no_cause sc n)
 
 -- ---- what is said
 
@@ -107,11 +112,12 @@ true_of_tuple = record {
         ∙ ap Some (sym asks_alone);
   };
   whole = subst (λ (x : Asked). HoldsNoHole x.parts) (sym asks_alone) ((tt, (tt, ((tt, (tt, tt)), tt))), tt);
-  known = λ h. subst (CannotHold sources 8) (sym asks_alone) (cannot_hold 7);
+  known = λ h. inl (subst (CannotHold sources 8) (sym asks_alone) (cannot_hold 7));
   fails = λ h. (answers_are_one sources 8 8).0 (implemented (alone unknown)) (subst (answers sources 8).Yes asks_alone h) (answer_is_no 7 unknown (tt, tt));
 }
 
 -- of the type alone it isn't
 pub untrue_alone : (r : InferenceResult) (n : ExprOrPatId) → IsTrueUnproved (given letter) sources r n (asks ty.Error) → ⊥
 untrue_alone r n h =
-    not_refuted 8 (subst (CannotHold sources 8) asks_unknown (h.known (subst (λ (x : Asked). HoldsUnknown x.parts) (sym asks_unknown) (inl (inr (inl tt))))))
+    let sc = (given letter).scope in
+    no_cause sc 8 (subst (HasCause sc sources 8) asks_unknown (h.known (subst (λ (x : Asked). HoldsUnknown x.parts) (sym asks_unknown) (inl (inr (inl tt))))))

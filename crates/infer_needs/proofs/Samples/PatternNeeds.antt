@@ -1,7 +1,7 @@
 -- Tables of `fn g(o: H<u8>) { let H(x) = o; }` over the facts of `Impls`: the pattern needs that `<u8 as Tr>::Out` is the type that stands in its item.
 use Rattle.std.proofs.Common.{ℕ, zero, suc, ◌≡◌, inl, inr, List, [], ◌∷◌, refl, sym, ap, subst, ◌∙◌, Some, None, slice_get}
 use Rattle.hir_types.specs.declared.ids.CallableDefId.TheVariants as callable
-use Rattle.infer_needs.specs.Words.{ExprOrPatId, GenericArg, Ty, Ty-F, out-Ty, out-roll-Ty, arg_as_type, Term, hole, pair, term, term_bool, term_char, term_uint, unit, RawBody, type_args, Asked, projects, only, answers, Proof, type_at, Gap, InferenceResult, alias_goal, Given, GoalReads, HasEntry, needs_at, pat_needs_by, pat_needs_at, IsNeeded, HasGap, IsProved, GoalsHold, given as given_in}
+use Rattle.infer_needs.specs.Words.{ExprOrPatId, GenericArg, Ty, Ty-F, out-Ty, out-roll-Ty, arg_as_type, Term, hole, pair, term, term_bool, term_char, term_error, term_uint, unit, RawBody, type_args, Asked, projects, only, answers, Proof, type_at, Gap, InferenceResult, alias_goal, Given, GoalReads, HasEntry, needs_at, pat_needs_by, pat_needs_at, IsNeeded, HasGap, IsProved, GoalsHold, given as given_in}
 use Rattle.hir_types.specs.declared.ids.ExprOrPatId.TheVariants as node
 use Rattle.hir_types.specs.declared.ty.Ty.TheVariants as ty
 use Rattle.hir_types.specs.declared.ty.UintTy.TheVariants as uint
@@ -13,7 +13,8 @@ use Rattle.infer_needs.proofs.Words.{hole_filling, type_layer, args_are, e, p, b
 use Rattle.infer_result.specs.declared.modes.BindingMode.TheVariants as mode
 use Rattle.infer_needs.proofs.Samples.Impls.{out, facts, own_body, u8_term, bool_term, char_term, found_as}
 use Rattle.infer_needs.proofs.Samples.Sources.{goal_reads_bare, bare_goal_reads}
-use Rattle.infer_needs.proofs.Samples.AliasProofs.{out_is_bool, out_asks, not_char}
+use Rattle.infer_needs.proofs.Samples.AliasProofs.{unknown, out_is_bool, out_asks, not_char, not_unknown}
+use Rattle.infer_needs.proofs.Samples.LeftUnknown.{readable}
 use Rattle.infer_needs.proofs.Samples.Needed.{sources, are_sources}
 use Rattle.infer_needs.proofs.Samples.Tables.{proofs, are_proofs, entry, out_known, out_bare, about_out, char_known, found_once}
 
@@ -132,6 +133,17 @@ other_type ps js h =
     elim (h.needs pattern (found_as u8_term char_term) (pattern_needs ty.Char char_term term_char ps js)) [
       | inl proved ↦ not_char h.system h.of_item (answers h.system 8).Alias hole ps proved.number proved.proof proved.listed proved.goal (h.proofs hole hole_filling)
       | inr other ↦ elim other [ inl said ↦ no_gap ty.Char char_term term_char ps js pattern _ said.1 | inr unknown ↦ char_known unknown.0 ]
+    ]
+
+-- where `{unknown}` stands in the item, which could have been read, without a complaint, whatever else is listed
+pub left_unknown : (ps : List Proof) (js : List (Ty × Ty)) → GoalsHold own_body given (table_of ty.Error ps js) → ⊥
+left_unknown ps js h =
+    elim (h.needs pattern (found_as u8_term unknown) (pattern_needs ty.Error unknown term_error ps js)) [
+      | inl proved ↦ not_unknown h.system h.of_item (answers h.system 8).Alias hole ps proved.number proved.proof proved.listed proved.goal (h.proofs hole hole_filling)
+      | inr other ↦ elim other [
+        | inl said ↦ no_gap ty.Error unknown term_error ps js pattern _ said.1
+        | inr may ↦ may.1 (inr (readable h.system h.of_item))
+      ]
     ]
 
 -- ---- taken

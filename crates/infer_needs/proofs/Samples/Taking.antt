@@ -109,7 +109,7 @@ module _ (l : RawLiteral) (t : Ty) (x : Term) (t_is : term t ≡ x) (ps : List P
   needed (node.PatId k) a h = (let none : slice_get [] h.at ≡ Some a = h.among in absurd (cc))
 
 module _ (t : Ty) (ps : List Proof) (js : List (Ty × Ty)) where
-  no_gap : (n : ExprOrPatId) (y : Gap) → HasGap (table_of t ps js []) n y → ⊥
+  pub no_gap : (n : ExprOrPatId) (y : Gap) → HasGap (table_of t ps js []) n y → ⊥
   no_gap (node.ExprId k) y h = (let none : slice_get [] k.0 ≡ Some h.gaps = h.at in cc)
   no_gap (node.PatId k) y h = (let none : slice_get [] k.0 ≡ Some h.gaps = h.at in cc)
 
@@ -118,7 +118,7 @@ module _ (t : Ty) (ps : List Proof) (js : List (Ty × Ty)) where
 abbrev pub yes : RawLiteral
 yes = literal.Bool true
 
-abbrev letter : RawLiteral
+abbrev pub letter : RawLiteral
 letter = literal.Char 97
 
 -- without an entry for what the path needs, whatever proofs are listed

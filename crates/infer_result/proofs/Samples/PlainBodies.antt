@@ -34,7 +34,7 @@ integer_body_is_plain = record {
   header = record { header = refl; inputs = no_parts _; output = plain 1 (type.Tuple []) refl tt (no_parts _) };
   sized = λ i below. absurd (omega arith);
   body = record {
-    exprs = each_in (IsPlainExpr integer.facts 0) integer.body.exprs (id_is_plain, (refl, (tt, ((refl, each_in (IsPlainStmt integer.facts 0) (stmt.Let (p 0) None (Some (e 2)) None ∷ []) ((refl, tt), tt)), tt))));
+    exprs = each_in (IsPlainExpr integer.facts 0) integer.body.exprs (id_is_plain, (tt, (tt, ((refl, each_in (IsPlainStmt integer.facts 0) (stmt.Let (p 0) None (Some (e 2)) None ∷ []) ((refl, tt), tt)), tt))));
     pats = each_in (IsPlainPat integer.facts integer.body) integer.body.pats (refl, tt);
     callees = each_stands integer.facts integer.body ((refl, tt), ((((tt, tt), tt), (refl, (refl, tt))), (refl, (refl, tt))), (tt, tt));
   };

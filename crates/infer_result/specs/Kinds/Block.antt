@@ -35,7 +35,8 @@ TailRule P n None t = P.no_tail n t
 TailRule P n (Some e) t = P.at e t
 
 -- the statements obey, and the tail is at the block's type
-pub record BlockRule (P : Placing) (g : Given) (r : InferenceResult) (n : ExprId) (stmts : List RawStmt) (last : Option ExprId) : Type 0 where
+pub record BlockRule (P : Placing) (g : Given) (r : InferenceResult) (n : ExprId) (stmts : List RawStmt)
+    (last : Option ExprId) : Type 0 where
   pub statements : StmtsRule P g r stmts
   pub type : Ty
   pub has : HasTy r n type

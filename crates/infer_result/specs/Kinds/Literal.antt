@@ -12,7 +12,6 @@ IsLiteralType (literal.Bool b) t = t ≡ ty.Bool
 IsLiteralType (literal.Char c) t = t ≡ ty.Char
 IsLiteralType (literal.Int digits (Some suffix)) t = t ≡ integer_type suffix
 IsLiteralType (literal.Int digits None) t = (i : IntegerTy) × (t ≡ integer_type i)
-IsLiteralType literal.Other t = ⊥
 
 -- ---- the type that it has by itself
 

@@ -25,7 +25,6 @@ PathRule g r e (path.Function f) =
     (ts : List Ty) × HasTy r e (ty.FnDef (callable.FunctionId f) (type_args ts))
     × (callable_params g.scope.facts (callable.FunctionId f) ≡ Some (length ts))
 PathRule g r e (path.Ctor v) = (t : Ty) × HasTy r e t × IsCtorPath g v t × ExprVariant r e v
-PathRule g r e path.Other = ⊥
 
 -- ---- the type that it has by itself
 

@@ -24,7 +24,8 @@ abbrev pub IsItemOf : InferenceResult → PatId → VariantId → List Ty → Li
 IsItemOf r p v ts [] = Unit {0}
 IsItemOf r p v ts (h ∷ hs) = PatItem r p (ctor_item v (ts ++ h ∷ hs))
 
--- The pattern is of the constructor of the variant x, at the types ts for the parameters of the adt and at the types hs for the associated types in
+-- The pattern is of the constructor of the variant x, at the types ts for the parameters of the adt and at the types hs for the associated
+-- types in
 -- its fields. It has the type of the adt.
 pub record IsPatOf (g : Given) (r : InferenceResult) (p : PatId) (v : VariantId) (x : RawVariant) (ts hs : List Ty) : Type 0 where
   pub is_variant : IsVariantAt g v x ts
@@ -51,7 +52,8 @@ PathPatRule g r p _ = ⊥
 
 -- ---- what it gives its parts
 
--- the pattern is a constructor over patterns, and t is the type of its field at this position, at the types of the item that the pattern is of
+-- the pattern is a constructor over patterns, and t is the type of its field at this position, at the types of the item that the pattern is
+-- of
 pub record GivesField (g : Given) (r : InferenceResult) (p : PatId) (i : ℕ) (t : Ty) : Type 0 where
   pub named : VariantId
   pub parts : List PatId

@@ -13,7 +13,7 @@ returns c =
     IfOk-weaker c.impl_goals_at.result (AreGoalsAt raw c.args.source c.in_ok-args.args p r) (AreGoalsOf raw c.args.first (trait_rule raw p r))
     (λ made h. are_goals raw c.args.first p r made
     (subst (λ (id : ImplId). slice_get raw.impls id.0 ≡ Some p) (sym h.source) c.requires.item)
-    c.requires.trait_ref
+    c.requires.said
     (h.args ∙ c.in_ok-args.ensures ∙ ap (holes_from c.args.first) c.len.ensures)
     (h.head ∙ ap (λ xs. head_at raw xs p r) (sym h.args))
     (h.preds ∙ ap (λ xs. map (goal_at raw xs) p.preds) (sym h.args)))

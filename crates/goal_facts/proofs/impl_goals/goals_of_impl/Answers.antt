@@ -2,8 +2,13 @@ use Rattle.std.proofs.Common.{sym, subst}
 use Rattle.std.proofs.lemmas.Result.{IfOk-weaker}
 use Rattle.goal_facts.specs.Words.{Rule, IsTraitKind}
 use Rattle.goal_facts.specs.Own.{trait_rule, ImplHasRule, AreGoalsOf}
-use Rattle.goal_facts.proofs.RulePlaces.{trait_rule_is}
+use Rattle.goal_facts.proofs.RulePlaces.{trait_rule_is, trait_is_said}
 use Rattle.goal_facts.proofs.impl_goals.goals_of_impl.Goals as goal
+
+pub goals_for-requires-clause-said : goal.goals_for-requires-clause-said
+goals_for-requires-clause-said c =
+    let q = c.requires in
+    trait_is_said c.args.facts.now c.args.source c.impl_-item.result.now c.in-Some.trait_ref q.0 c.impl_-item.ensures c.in-Some.is q.1 q.2
 
 pub returns : goal.returns
 returns c =

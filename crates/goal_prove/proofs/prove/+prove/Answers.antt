@@ -7,7 +7,7 @@ use Rattle.goal_prove.proofs.Built.{by_size, by_itself, by_listed, by_parts, by_
 use Rattle.goal_prove.proofs.Copied.{has_parts, parts_asked}
 use Rattle.goal_prove.proofs.Fitting.{trait_not_itself, free, sourced}
 use Rattle.goal_prove.proofs.Answering.{same_rule, next_proved, not_itself}
-use Rattle.goal_prove.proofs.Below.{has_reading, below, is_done, is_good, is_asked, is_proved, made_reads}
+use Rattle.goal_prove.proofs.Below.{has_reading, below, is_done, is_good, is_asked, is_proved, made_reads, made_parts}
 use Rattle.goal_prove.proofs.prove.+prove.Goals as goal
 
 -- ---- prove_all
@@ -53,15 +53,15 @@ prove_by_impl-prove_all-requires t c =
     let heads = each_get RuleHasHeads f.rules x.place fit.rule c.in_ok-listed.ensures.heads.rules fit.at in
     let has = c.requires.of fit.rule fit.at in
     let asked = preds_asked raw item f c.lawful.ensures n c.requires.depth k w c.requires.asked c.args.goal.now c.requires.goal c.requires.sourced.free x fit heads c.args.id has in
-    let listed = c.as_slice-2.ensures.value ∙ ap (λ (s : Sources). s.rules.items) c.in_ok-listed.ensures.is in
+    let listed = c.as_slice.ensures.value ∙ ap (λ (s : Sources). s.rules.items) c.in_ok-listed.ensures.is in
     let rule = c.index-as_slice-found.result in
-    let same = same_rule c.as_slice-2.result.now x.place rule c.index-as_slice-found.is fit.rule (subst (λ ys. slice_get (rules_of ys) x.place ≡ Some fit.rule) (sym listed) fit.at) in
+    let same = same_rule c.as_slice.result.now x.place rule c.index-as_slice-found.is fit.rule (subst (λ ys. slice_get (rules_of ys) x.place ≡ Some fit.rule) (sym listed) fit.at) in
     let own = subst (λ (r : Rule). Each (PredIsAsked raw f n (fill_of (log_of x.fills.items))) r.preds) (sym same) asked in
     let sliced = subst (λ ys. Each (PredIsAsked raw f n (fill_of (log_of x.fills.items))) (asked_list ys)) (sym c.as_slice-preds.ensures.value) own in (
       omega (arith, c.decreases),
       (
         c.requires.same,
-        (c.requires.depth, subst (λ ys. Each (PredIsAsked raw f n (fill_of (log_of ys))) (asked_list c.as_slice-preds.result.now)) (sym c.as_slice-3.ensures.value) sliced),
+        (c.requires.depth, subst (λ ys. Each (PredIsAsked raw f n (fill_of (log_of ys))) (asked_list c.as_slice-preds.result.now)) (sym c.as_slice-fills.ensures.value) sliced),
       ),
     )
 
@@ -77,19 +77,19 @@ prove_by_impl-returns-clause-proved t c =
     let fit = c.requires.fit in
     let heads = each_get RuleHasHeads f.rules x.place fit.rule c.in_ok-listed.ensures.heads.rules fit.at in
     let has = c.requires.of fit.rule fit.at in
-    let listed = c.as_slice-2.ensures.value ∙ ap (λ (s : Sources). s.rules.items) c.in_ok-listed.ensures.is in
+    let listed = c.as_slice.ensures.value ∙ ap (λ (s : Sources). s.rules.items) c.in_ok-listed.ensures.is in
     let rule = c.index-as_slice-found.result in
-    let same = same_rule c.as_slice-2.result.now x.place rule c.index-as_slice-found.is fit.rule (subst (λ ys. slice_get (rules_of ys) x.place ≡ Some fit.rule) (sym listed) fit.at) in
+    let same = same_rule c.as_slice.result.now x.place rule c.index-as_slice-found.is fit.rule (subst (λ ys. slice_get (rules_of ys) x.place ≡ Some fit.rule) (sym listed) fit.at) in
     let there = subst (λ (z : RawFacts). slice_get z.impls c.args.id.0 ≡ Some c.impl_-item.result.now) c.facts-2.ensures c.impl_-item.ensures in
     let own : c.impl_-item.result.now ≡ has.0 = same_Some c.impl_-item.result.now has.0 (sym there ∙ has.1) in
     let ps = c.args.proofs.now.items in
     let ys = c.prove_all.new.proofs.items in
     let ks = c.in_ok-children.children in
-    let filled = subst (λ zs. ArePredsProved raw f (fill_of (log_of zs)) ps ys (asked_list c.as_slice-preds.result.now) ks) c.as_slice-3.ensures.value c.in_ok-children.ensures.proved in
+    let filled = subst (λ zs. ArePredsProved raw f (fill_of (log_of zs)) ps ys (asked_list c.as_slice-preds.result.now) ks) c.as_slice-fills.ensures.value c.in_ok-children.ensures.proved in
     let sliced = subst (λ zs. ArePredsProved raw f (fill_of (log_of x.fills.items)) ps ys (asked_list zs) ks) c.as_slice-preds.ensures.value filled in
     let proved = subst (λ (r : Rule). ArePredsProved raw f (fill_of (log_of x.fills.items)) ps ys r.preds ks) same sliced in
     by_impl raw item f c.lawful.ensures n c.requires.depth k w c.requires.asked c.args.goal.now c.requires.goal c.requires.sourced.free x fit heads c.args.id has
-    c.len.result (c.len.ensures ∙ ap (λ (z : RawImpl). length z.params) own) c.in_ok-args.args (c.in_ok-args.ensures ∙ ap (λ zs. fill_args (log_of zs) c.len.result) c.as_slice.ensures.value)
+    c.len.result (c.len.ensures ∙ ap (λ (z : RawImpl). length z.params) own) c.in_ok-args.args (c.in_ok-args.ensures ∙ (ap (λ zs. fill_args (log_of zs) (term_of rule.head.parts) c.len.result) c.as_slice-fills.ensures.value ∙ ap (λ (r : Rule). fill_args (log_of x.fills.items) r.head.parts c.len.result) same))
     ks ps ys c.push_proof.new.proofs.items proved c.push_proof.result c.push_proof.ensures
 
 -- ---- prove_by_parts
@@ -252,5 +252,5 @@ prove_pred-returns-clause-proved t c =
     let reads = subst (λ (s : Sources). Reads (answers (system s) m).Alias p q.parts u) c.requires.same some in
     let good = is_good raw f heads n c.requires.depth p q c.requires.pred m e u reads in
     let done = is_done raw f heads n c.requires.depth p q c.requires.pred m e u reads in
-    is_proved raw f heads n c.requires.depth p q c.requires.pred m e u reads c.in_ok-goal.goal (made_reads raw f q.kind u good done c.in_ok-goal.goal c.in_ok-goal.ensures)
+    is_proved raw f heads n c.requires.depth p q c.requires.pred m e u reads c.in_ok-goal.goal (made_reads raw f q.kind u good done c.in_ok-goal.goal c.in_ok-goal.ensures) (made_parts raw f q.kind u good done c.in_ok-goal.goal c.in_ok-goal.ensures)
     c.args.proofs.now.items c.prove.new.proofs.items c.in_ok-number.number c.in_ok-number.ensures.proved

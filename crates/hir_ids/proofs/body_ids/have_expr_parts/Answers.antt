@@ -13,5 +13,5 @@ loop-expr-preserved c =
 
 pub returns-then-not-are_in_body : goal.returns-then-not-are_in_body
 returns-then-not-are_in_body c =
-    not_all (λ _ x. AllInBody c.args.body.now (nodes (expr_parts x))) _ _ c.loop-expr.expr-index c.expr-item.result c.are_in_body.result c.loop-expr.invariant c.loop-expr-test.true c.expr-item.is
+    not_all (λ _ x. AllInBody c.args.body.now (nodes (expr_parts c.args.body.now x))) _ _ c.loop-expr.expr-index c.expr-item.result c.are_in_body.result c.loop-expr.invariant c.loop-expr-test.true c.expr-item.is
     (λ all. c.are_in_body.ensures.1 (subst (λ xs. AllInBody c.args.body.now xs) (sym (c.deref.ensures.value ∙ c.in_ok-nodes.ensures)) all)) c.if-not-are_in_body.true

@@ -1,6 +1,5 @@
 use Rattle.std.proofs.Common.{◌≡◌, ◌++◌, take}
-use Rattle.hir_schedule.specs.Words.{arms_parts}
-use Rattle.hir_schedule.specs.Own.{nodes}
+use Rattle.hir_schedule.specs.Words.{arms_parts, nodes}
 use Rattle.hir_schedule.proofs.parts.push_arms.Given as goal
 
 abbrev pub invariant-loop-arm : goal.invariant-loop-arm

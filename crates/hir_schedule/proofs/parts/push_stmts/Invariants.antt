@@ -1,6 +1,5 @@
 use Rattle.std.proofs.Common.{◌≡◌, ◌++◌, take}
-use Rattle.hir_schedule.specs.Words.{stmts_parts}
-use Rattle.hir_schedule.specs.Own.{nodes}
+use Rattle.hir_schedule.specs.Words.{stmts_parts, nodes}
 use Rattle.hir_schedule.proofs.parts.push_stmts.Given as goal
 
 abbrev pub invariant-loop-stmt : goal.invariant-loop-stmt

@@ -1,6 +1,5 @@
 use Rattle.std.proofs.Common.{◌≡◌, ◌++◌, take, map}
-use Rattle.hir_schedule.specs.Words.{pat_parts}
-use Rattle.hir_schedule.specs.Own.{nodes}
+use Rattle.hir_schedule.specs.Words.{pat_parts, nodes}
 use Rattle.hir_schedule.proofs.schedule.push_pat_lists.Given as goal
 
 abbrev pub invariant-loop-pat : goal.invariant-loop-pat

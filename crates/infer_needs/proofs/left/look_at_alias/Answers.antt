@@ -1,10 +1,10 @@
-use Rattle.std.proofs.Common.{◌≡◌, ◌∙◌, ℕ, Option, sym, ap, subst, true, true≢false, List, map}
+use Rattle.std.proofs.Common.{◌≡◌, ◌∙◌, ℕ, Option, sym, ap, subst, true, true≢false, List, map, Some}
 use Rattle.std.proofs.lemmas.Result.{on_ok_weaker}
 use Rattle.hir_types.specs.declared.goal.Goal.TheVariants as the_goal
 use Rattle.infer_needs.specs.Words.{GenericArg, Ty, chain, term, arg_term, RawFacts, IsLawful, answers, IsRead, staying, system, term_of, asked_goal, IsTypeRead, IsProvedIf, AddsOneRoot, IsWritten, HoldsUnknown, StaysOrIsListed}
 use Rattle.hir_types.specs.declared.ty.Ty.TheVariants as ty
-use Rattle.infer_needs.specs.Own.{Lists}
-use Rattle.infer_needs.proofs.FitParts.{entry_reads}
+use Rattle.infer_needs.specs.Own.{Lists, IsRightIn}
+use Rattle.infer_needs.proofs.FitParts.{entry_reads, entry_goal}
 use Rattle.infer_needs.proofs.Leaving.{lists_nothing, reads_staying, reads_unknown, found_settles, lists_reading, proof_here}
 use Rattle.infer_needs.proofs.ReadsYes.{reads_yes, reads_written}
 use Rattle.infer_needs.proofs.Rooted.{roots_other}
@@ -100,8 +100,6 @@ returns c =
     let reads = subst (IsTypeRead f raw.limits.goal_depth (ty.Projection k zs)) c.in-Some.is c.in_ok-read.ensures.read in
     let args : c.in_ok-term_args.field-0 ≡ zs = c.in_ok-term_args.ensures.read ∙ sym c.in_ok-made.ensures.read in
     let at = subst (IsProvedIf f c.raw.result.now.limits.goal_depth c.prove_goal.new.proofs.items (the_goal.Projection k c.in_ok-term_args.field-0 c.in_ok-dup.field-0)) c.in-Some-2.is c.in_ok-_number.ensures.proved in
-    let one = subst (λ (o : Option ℕ). AddsOneRoot o c.args.proofs.now.items c.prove_goal.new.proofs.items) c.in-Some-2.is c.in_ok-_number.ensures.roots in
-    let roots = roots_other (the_goal.Projection k c.in_ok-term_args.field-0 c.in_ok-dup.field-0) c.args.proofs.now.items c.prove_goal.new.proofs.items c.in-Some-2._number c.in_ok-_number.ensures.adds.behind one at (λ h. h) in
     let proved = proof_here c.prove_goal.new.proofs.items k c.in_ok-term_args.field-0 zs c.in_ok-dup.field-0 u c.in-Some-2._number args c.in_ok-dup.ensures at in
     let known = λ (h : HoldsUnknown (asked_goal (the_goal.Projection k zs u)).parts). true≢false (sym (c.in_ok-unknown.ensures.1 (subst (λ (xs : List GenericArg). HoldsUnknown (asked_goal (the_goal.Projection k xs c.in_ok-dup.field-0)).parts) (sym args)
     (subst (λ (t : Ty). HoldsUnknown (asked_goal (the_goal.Projection k zs t)).parts) (sym c.in_ok-dup.ensures) h))) ∙ c.if-unknown.false) in
@@ -109,6 +107,13 @@ returns c =
     let args_written = subst IsWritten (sym is) c.requires.whole.written in
     let written : IsWritten (asked_goal (the_goal.Projection k zs u)).parts = (args_written, reads_written raw law _ f c.in_ok-read.ensures.given raw.limits.goal_depth k zs u reads args_written) in
     let fits = entry_reads raw law item f c.in_ok-read.ensures.given raw.limits.goal_depth k (term_of c.args.args.now) zs u is c.requires.many c.requires.whole.fits reads in
+    let right : IsRightIn raw item (asked_goal (the_goal.Projection k c.in_ok-term_args.field-0 c.in_ok-dup.field-0)) =
+    subst (λ (xs : List GenericArg). IsRightIn raw item (asked_goal (the_goal.Projection k xs c.in_ok-dup.field-0))) (sym args)
+    (subst (λ (t : Ty). IsRightIn raw item (asked_goal (the_goal.Projection k zs t))) (sym c.in_ok-dup.ensures)
+    (record { fits = entry_goal raw item k (term_of c.args.args.now) zs u is c.requires.many c.requires.whole.fits fits; written = written }))
+    in
+    let one = subst (λ (o : Option ℕ). AddsOneRoot o c.args.proofs.now.items c.prove_goal.new.proofs.items) c.in-Some-2.is c.in_ok-_number.ensures.roots in
+    let roots = roots_other raw item f c.raw.result.now.limits.goal_depth (the_goal.Projection k c.in_ok-term_args.field-0 c.in_ok-dup.field-0) c.args.proofs.now.items c.prove_goal.new.proofs.items (Some c.in-Some-2._number) (λ h. h) right c.in_ok-_number.ensures.adds.behind one at in
     let other = λ (stays : term u ≡ staying k (chain (map arg_term zs))). true≢false (sym (c.is_same-2.ensures.1 (c.in_ok-term.ensures.is ∙ (stays ∙ (ap (staying k) is ∙ sym c.in_ok-stays.ensures)))) ∙ c.if-is_same.false) in
     on_ok_weaker c.add.result (λ added. subst (λ (ks : List (Ty × Ty)). Lists raw item f (λ (js : List (Ty × Ty)). (xs : List GenericArg) → chain (map arg_term xs) ≡ term_of c.args.args.now → StaysOrIsListed f raw.limits.goal_depth js k xs) c.args.proofs.now.items c.prove_goal.new.proofs.items c.args.found.now ks) (sym added)
     (lists_reading raw f k (term_of c.args.args.now) zs is u reads item fits c.args.proofs.now.items c.prove_goal.new.proofs.items c.args.found.now c.in_ok-_number.ensures.adds roots (subst IsRead (sym is) c.requires.whole.read) proved known other written c.requires.read)) c.add.ensures

@@ -1,10 +1,10 @@
-use Rattle.std.proofs.Common.{◌≡◌, ◌∙◌, [], inl, inr, refl, sym, ap, subst, true≢false}
+use Rattle.std.proofs.Common.{◌≡◌, ◌∙◌, [], inl, inr, refl, sym, ap, subst, true≢false, ◌∷◌}
 use Rattle.std.proofs.lemmas.Result.{on_ok_weaker}
 use Rattle.hir_types.specs.declared.goal.Goal.TheVariants as the_goal
 use Rattle.infer_needs.specs.Words.{system, asked_goal, IsWritten, GoalReads, IsAboutAlias}
 use Rattle.infer_needs.specs.Own.{HasProofOf, SaysAlias, IsGoalRead, IsWrittenIf}
 use Rattle.infer_needs.proofs.Adding.{adds_none}
-use Rattle.infer_needs.proofs.Rooted.{roots_none, roots_other_than}
+use Rattle.infer_needs.proofs.Rooted.{roots_none}
 use Rattle.infer_needs.proofs.ReadGoals.{reads_same, read_yes, trait_not_about, about_is_other}
 use Rattle.infer_needs.proofs.note.note_read.Goals as goal
 
@@ -15,7 +15,7 @@ returns-in_default c =
     let none = subst (IsGoalRead f raw.limits.goal_depth (asked_goal c.args.goal.now)) c.in_default.is c.in_ok-read.ensures.read in
     record {
       adds = adds_none raw f c.args.proofs.now.items;
-      roots = roots_none [] c.args.proofs.now.items;
+      roots = roots_none (asked_goal c.args.goal.now ∷ []) c.args.proofs.now.items;
       noted = inl (refl, refl, λ b about. none b about.reads);
     }
 
@@ -27,7 +27,7 @@ returns-then-not-branch c =
     let reads = subst (IsGoalRead f raw.limits.goal_depth a) c.in-Some.is c.in_ok-read.ensures.read in
     record {
       adds = adds_none raw f c.args.proofs.now.items;
-      roots = roots_none [] c.args.proofs.now.items;
+      roots = roots_none (asked_goal c.args.goal.now ∷ []) c.args.proofs.now.items;
       noted = inl (
         refl,
         refl,
@@ -46,6 +46,13 @@ prove_read-requires-clause-yes c =
     let n = c.args.sources.now.facts.limits.goal_depth in
     let a = asked_goal c.args.goal.now in
     read_yes f n a (asked_goal c.in-Some.read) (subst (IsGoalRead f n a) c.in-Some.is c.in_ok-read.ensures.read) c.requires.yes
+
+pub prove_read-requires-clause-reads : goal.prove_read-requires-clause-reads
+prove_read-requires-clause-reads c =
+    subst (IsGoalRead (system c.args.sources.now.sources) c.args.sources.now.facts.limits.goal_depth (asked_goal c.args.goal.now)) c.in-Some.is c.in_ok-read.ensures.read
+
+pub prove_read-requires-clause-about : goal.prove_read-requires-clause-about
+prove_read-requires-clause-about c = c.in_ok-is_about_alias.ensures.0 c.if-not-branch.false
 
 pub returns-in-Trait : goal.returns-in-Trait
 returns-in-Trait c =
@@ -75,5 +82,4 @@ returns-in-Projection c =
       other = about_is_other k xs t about;
       written = subst (λ g. IsWritten (asked_goal g).parts) is (subst IsWrittenIf c.in-Some.is c.in_ok-read.ensures.written);
     } in
-    let roots = roots_other_than (asked_goal read) read_about c.args.proofs.now.items c.prove_read.new.proofs.items c.in_ok-prove_read.ensures.roots in
-    on_ok_weaker c.list.result (λ listed. record { adds = c.in_ok-prove_read.ensures.adds; roots = roots; noted = inr (says, listed) }) c.list.ensures
+    on_ok_weaker c.list.result (λ listed. record { adds = c.in_ok-prove_read.ensures.adds; roots = c.in_ok-prove_read.ensures.roots; noted = inr (says, listed) }) c.list.ensures

@@ -1,6 +1,6 @@
 use Rattle.std.proofs.Common.{◌≡◌, List, Some, ap, subst, sym, map}
 use Rattle.hir_types.specs.declared.ids.ExprOrPatId.TheVariants as node
-use Rattle.infer_needs.specs.Words.{system, Asked, asked_goal, needs_of, recorded}
+use Rattle.infer_needs.specs.Words.{system, Asked, asked_goal, needs_of, recorded, scope_of}
 use Rattle.infer_needs.specs.Own.{AreProvable, ListsAnswers, AddsRootsOf}
 use Rattle.infer_needs.proofs.Provable.{needed_here}
 use Rattle.infer_needs.proofs.Judging.{judged_at}
@@ -25,9 +25,9 @@ returns-in_ok-gaps-in-Some c =
     let all = needed_here raw c.facts.result.now x types c.args.at c.in_ok-expr_id.field-0.0 c.in-Some.ty.now gs c.in_ok-needed-in-Some.ensures c.facts.ensures c.in-Some.ensures c.in_ok-expr_id.ensures in
     let here : node.ExprId c.in_ok-expr_id.field-0 ≡ node.ExprId (record { 0 = c.args.at }) = ap (λ n. node.ExprId (record { 0 = n })) c.in_ok-expr_id.ensures in
     record {
-      judged = judged_at raw f (node.ExprId c.in_ok-expr_id.field-0) (node.ExprId (record { 0 = c.args.at })) gs (needs_of raw (Some x) (recorded types c.args.at)) c.args.proofs.now.items new.proofs.items c.args.found.now new.found c.in_ok-gaps-in-Some.gaps here all c.in_ok-gaps-in-Some.ensures.judged;
+      judged = judged_at raw (scope_of c.args.sources.now.facts c.args.def) f (node.ExprId c.in_ok-expr_id.field-0) (node.ExprId (record { 0 = c.args.at })) gs (needs_of raw (Some x) (recorded types c.args.at)) c.args.proofs.now.items new.proofs.items c.args.found.now new.found c.in_ok-gaps-in-Some.gaps here all c.in_ok-gaps-in-Some.ensures.judged;
       told = subst (λ xs. ListsAnswers f raw.limits.goal_depth xs c.args.told.now.items new.told.items) all c.in_ok-gaps-in-Some.ensures.told;
-      roots = subst (λ xs. AddsRootsOf xs c.args.proofs.now.items new.proofs.items) all c.in_ok-gaps-in-Some.ensures.roots;
+      roots = subst (λ xs. AddsRootsOf c.args.sources.now.facts c.args.sources.now.item (system c.args.sources.now.sources) xs c.args.proofs.now.items new.proofs.items) all c.in_ok-gaps-in-Some.ensures.roots;
     }
 
 pub returns-in-None-clause-roots : goal.returns-in-None-clause-roots

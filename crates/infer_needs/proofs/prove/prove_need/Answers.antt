@@ -1,10 +1,10 @@
 use Rattle.std.proofs.Common.{◌≡◌, ◌∙◌, [], ◌∷◌, inl, sym, ap, subst}
-use Rattle.infer_needs.specs.Words.{RawFacts, answers, system, asked_goal, IsAnswer}
+use Rattle.infer_needs.specs.Words.{RawFacts, answers, system, asked_goal, IsAnswer, scope_of}
 use Rattle.infer_needs.proofs.Adding.{adds_then, has_later}
 use Rattle.infer_needs.proofs.Telling.{tells_one}
 use Rattle.infer_needs.proofs.Judging.{refused, not_yes}
 use Rattle.infer_needs.proofs.ReadGoals.{proved_yes}
-use Rattle.infer_needs.proofs.Rooted.{roots_none, roots_proved, roots_aside}
+use Rattle.infer_needs.proofs.Rooted.{roots_none, roots_proved, roots_more}
 use Rattle.infer_needs.proofs.prove.prove_need.Goals as goal
 
 pub note-requires-clause-yes : goal.note-requires-clause-yes
@@ -42,8 +42,8 @@ returns-in_ok-note-in-Yes c =
         noted = notes.noted;
       });
       told = tells_one f raw.limits.goal_depth c.args.goal answer c.args.told.now.items c.evaluate.new.told.items told.answer told.told;
-      roots = roots_aside (a ∷ []) c.args.proofs.now.items first last
-          (roots_proved f c.raw.result.now.limits.goal_depth c.args.goal c.args.proofs.now.items first c.in_ok-prove_goal-in-Yes.field-0 proved.adds.behind proved.roots proved.proved) notes.roots;
+      roots = roots_more (a ∷ []) c.args.proofs.now.items first last
+          (roots_proved raw c.args.sources.now.item f c.raw.result.now.limits.goal_depth c.args.goal c.args.proofs.now.items first c.in_ok-prove_goal-in-Yes.field-0 proved.adds.behind proved.roots proved.proved) notes.roots;
     }
 
 pub returns-in_ok-complain-in-No : goal.returns-in_ok-complain-in-No
@@ -53,7 +53,7 @@ returns-in_ok-complain-in-No c =
     let answer = c.in_ok-evaluate.field-0 in
     let told = c.in_ok-evaluate.ensures in
     record {
-      judged = refused raw f c.args.node c.args.goal c.args.proofs.now.items c.args.found.now c.args.gaps.now c.complain.new.gaps (not_yes f raw.limits.goal_depth (asked_goal c.args.goal) answer c.in-No.is told.answer) c.in_ok-complain-in-No.ensures;
+      judged = refused raw (scope_of c.args.sources.now.facts c.args.def) f c.args.node c.args.goal c.args.proofs.now.items c.args.found.now c.args.gaps.now c.complain.new.gaps (not_yes f raw.limits.goal_depth (asked_goal c.args.goal) answer c.in-No.is told.answer) c.in_ok-complain-in-No.ensures;
       told = tells_one f raw.limits.goal_depth c.args.goal answer c.args.told.now.items c.evaluate.new.told.items told.answer told.told;
       roots = roots_none (asked_goal c.args.goal ∷ []) c.args.proofs.now.items;
     }

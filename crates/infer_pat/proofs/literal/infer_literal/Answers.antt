@@ -2,16 +2,9 @@ use Rattle.std.proofs.Common.{◌≡◌, ◌∙◌, refl, sym, ap, Some, slice_g
 use Rattle.std.proofs.lemmas.Option.{slice_get_read}
 use Rattle.infer_pat.specs.Words.hir_raw.declared.raw.RawExpr.TheVariants as expr
 use Rattle.infer_pat.specs.Words.{expected_type}
-use Rattle.infer_pat.proofs.Words.{carried_expr}
 use Rattle.infer_pat.specs.Own.{literal_type_at}
 use Rattle.infer_pat.proofs.Literals.{literal_kind}
 use Rattle.infer_pat.proofs.literal.infer_literal.Goals as goal
-
-pub literal_ty-requires-clause-carried : goal.literal_ty-requires-clause-carried
-literal_ty-requires-clause-carried c =
-    let is : slice_get c.args.given.now.body.now.exprs c.args.tgt_expr.0 ≡ Some (expr.Lit c.in-Lit.literal)
-    = slice_get_read c.args.given.now.body.now.exprs _ c.args.tgt_expr.0 _ refl c.requires.before.within (rw c.as_slice.ensures at c.index-as_slice-tgt_expr.is) ∙ ap (λ x. Some x) c.in-Lit.is in
-    carried_expr c.args.given.now.body.now c.args.tgt_expr.0 (expr.Lit c.in-Lit.literal) c.requires.before.ready.law.carried is
 
 pub returns-clause-kind : goal.returns-clause-kind
 returns-clause-kind c =

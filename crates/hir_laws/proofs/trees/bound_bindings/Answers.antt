@@ -1,0 +1,9 @@
+use Rattle.std.proofs.Common.{rules}
+use Rattle.std.proofs.lemmas.Iterator.{YieldsList-from_slice, YieldsList-from_map, items_from_collect}
+use Rattle.hir_laws.specs.Own.{bound_binding}
+use Rattle.hir_laws.proofs.trees.bound_bindings.Goals as goal
+
+pub returns : goal.returns
+returns c =
+    items_from_collect c.collect.result c.collect.ensures.ran
+    (YieldsList-from_map _ bound_binding (YieldsList-from_slice c.args.pats.now (cc)) c.map.ensures.closure (λ x r q k. search rules))

@@ -1,0 +1,4 @@
+pub mod Enclosed
+pub mod Numbered
+pub mod Words
+pub mod Own
