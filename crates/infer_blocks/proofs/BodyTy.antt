@@ -49,7 +49,7 @@ use Rattle.infer_ctx.specs.Steps.{Follows}
 use Rattle.infer_ctx.specs.Tells.{TellsRecorded}
 use Rattle.infer_ctx.proofs.Asked.{told_with}
 use Rattle.infer_ctx.proofs.Category.{walks_refl}
-use Rattle.infer_ctx.proofs.Keeps.{extends_refl, hole_at, diagnostic_kept, seen_as_kept}
+use Rattle.infer_ctx.proofs.Keeps.{columns_written, hole_at, diagnostic_kept, seen_as_kept}
 use Rattle.infer_ctx.proofs.UnderClosings.{sound_placeholder, push_cases, At-closed, At-unclosed, closes_earlier}
 use Rattle.infer_ctx.proofs.FineTypes.{fine_hole}
 use Rattle.infer_ctx.proofs.Lists.{At-put, put-cases, put-here, take_next}
@@ -58,6 +58,8 @@ use Rattle.infer_ctx.proofs.Written.{let_fine}
 use Rattle.infer_coerce.proofs.Holes.{holed, holed_sound}
 use Rattle.infer_pat.proofs.PathWalk.{recorded_at}
 use Rattle.infer_blocks.specs.BodyTypes.{AddsPlaceholders, BeforePartTy, BeforePartTys, PartTyDone, PlaceholderTyDone, PartTysDone, BeforeBodyTy, BodyTyDone, IsFirstTy}
+use Rattle.infer_result.specs.Columns as column
+use Rattle.infer_result.proofs.Columns.{long_with, types_with}
 
 -- ---- numbers of parts
 
@@ -295,7 +297,7 @@ module _ {A : Type 0} (f : Ty → A) (g : Given) (ws : List TypeRefId) (old : In
 
 -- what else is recorded is left alone
 of_body_with : (b : RawBody) (r : InferenceResult) (xs : List (Option Ty)) → IsOfBody b r → IsOfBody b (record r { type_of_placeholder = xs })
-of_body_with b r xs h = assumption h
+of_body_with b r xs h = long_with b r column.type_of_placeholder xs tt h
 
 -- these types are recorded for `_`s
 abbrev pub with_placeholders : Found → List (Option Ty) → Found
@@ -305,20 +307,17 @@ module _ (g : Given) (s : Schedule) (old : Found) (xs : List (Option Ty)) (h : I
     (kept : (k : ℕ) (t : Ty) → PlaceholderTy old.result k t → At xs k t)
     (only : (k : ℕ) (t : Ty) → At xs k t → (IsPlaceholder g k × IsAsKnown g k t) × IsCarriedType t) where
   extends : Extends old.result (with_placeholders old xs).result
-  extends =
-      let same : Extends old.result old.result = extends_refl old.result in
-      let said : (e : ExprId) (d : InferenceDiagnostic) → At old.result.expr_diagnostics e.0 d → At old.result.expr_diagnostics e.0 d ⊎ WasSeen (with_placeholders old xs).result e
-      = λ e d i. inl i in
-      let seen : (e : ExprId) → WasSeen old.result e → WasSeen (with_placeholders old xs).result e
-      = λ e i. record { position = i.position; entry = i.entry; found = i.found; is_node = i.is_node } in
-      assumption (same, kept, said, seen)
+  extends = record {
+    columns = columns_written old.result column.type_of_placeholder xs kept;
+    diagnostics = λ e d i. inl i;
+    seen = λ e i. record { position = i.position; entry = i.entry; found = i.found; is_node = i.is_node };
+  }
 
   walked : IsWalked g s (with_placeholders old xs)
   walked =
       let new : Found = with_placeholders old xs in
       let of_body : IsOfBody g.body new.result = of_body_with g.body old.result xs h.of_body in
-      let placed : (k : ℕ) (t : Ty) → At xs k t → IsCarriedType t = λ k t i. (only k t i).1 in
-      let carried : IsCarriedTable new.result = assumption (placed, h.carried) in
+      let carried : IsCarriedTable new.result = types_with IsCarriedType old.result column.type_of_placeholder xs (λ k t i. (only k t i).1) h.carried in
       let said : (e : ExprId) (d : InferenceDiagnostic) → At new.result.expr_diagnostics e.0 d → IsTrueDiagnostic g new.result e d
       = λ e d i. diagnostic_kept g old.result new.result extends e d (h.diagnostics e d i) in
       let variants : RecordsVariants g.body new.result = assumption h.variants in
@@ -350,7 +349,7 @@ module _ (g : Given) (s : Schedule) (law : IsLawful g.scope.facts) (w : TypeRefI
   fine : IsFine g.scope new.goals.table t
   fine = subst (λ u. IsFine g.scope new.goals.table u) (sym d.is)
       (let_fine g.scope.facts law g.scope.params g.scope.associated new.goals.table (hole_type new.result) w (h.ready.written.lets h.block h.at_stmt h.pattern w h.init h.other h.is_let) (λ k stands.
-      (let q = d.recorded k stands in subst (λ u. IsFine g.scope new.goals.table u) (sym (hole_at new.result k q.0 q.1)) (d.adds.sound.fine.placeholders k q.0 q.1))))
+      (let q = d.recorded k stands in subst (λ u. IsFine g.scope new.goals.table u) (sym (hole_at new.result k q.0 q.1)) (d.adds.sound.fine.each column.type_of_placeholder k q.0 q.1))))
 
   module _ (a : Assignment) (k : Closes a new) where
     earlier : Closes a old
@@ -389,7 +388,7 @@ module _ (g : Given) (s : Schedule) (law : IsLawful g.scope.facts) (w : TypeRefI
           | inr i ↦ (i.0, known_under n q.0 i.1)
         ] in (
           subst (λ v. IsPlaceholder g n × IsAsKnown g n v) q.2 as_known,
-          subst IsCarriedType q.2 (fine_closed g.scope a q.0 k.closing (d.adds.sound.fine.placeholders n q.0 q.1).heads),
+          subst IsCarriedType q.2 (fine_closed g.scope a q.0 k.closing (d.adds.sound.fine.each column.type_of_placeholder n q.0 q.1).heads),
         ))))
 
   pub body_ty_done : BodyTyDone g s w t old new

@@ -36,6 +36,7 @@ use Rattle.infer_coerce.proofs.Coercions.{owed_paid}
 use Rattle.infer_pat.specs.Patterns.{BeforePat, PatDone, PatWalked}
 use Rattle.infer_blocks.specs.Blocks.{BeforeStmt, StmtDone, StmtWalked, InitDone, MaybeRecorded, declared_type}
 use Rattle.infer_blocks.specs.BodyTypes.{BeforeBodyTy, BodyTyDone, BodyTyWalked}
+use Rattle.infer_result.specs.Columns as column
 
 -- what an expression asks of the first of the parts that lie ahead
 pub part_demand : (g : Given) (s : Schedule) (n : ExprId) (from : ℕ) (role : Role) (e : ExprId) (ps : List Part) (r : InferenceResult) (t : Ty)
@@ -144,7 +145,7 @@ module _ (g : Given) (s : Schedule) (n : ExprId) (p : PatId) (w : Option TypeRef
 
   made : (y : Option TypeRefId) (t : Ty) (mid new : Found) → MaybeRecorded g mid.result y → IsPlaced mid.result e (declared_type g mid.result y) t
       → PatWalked g s p (Some t) mid new → LetRule (at_or_mismatch g new.result) g new.result p y (Some e)
-  made None t mid new m k d = (t, d.walks.extends.exprs e t k, d.placed)
+  made None t mid new m k d = (t, d.walks.extends.columns column.type_of_expr e.0 t k, d.placed)
   made (Some y) t mid new m k d =
       let same : declared g mid.result y ≡ declared g new.result y = declared_kept g mid.result new.result d.walks.extends y m in (
         recorded_kept g mid.result new.result d.walks.extends y m,

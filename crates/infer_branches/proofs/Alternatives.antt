@@ -6,6 +6,7 @@ use Rattle.hir_types.specs.declared.ids.ExprOrPatId.TheVariants as node
 use Rattle.infer_branches.proofs.Words.{is_at_kept, any_kept, walks_paid, noted_extends, noted_walks, noted_has}
 use Rattle.infer_branches.specs.Words.infer_coerce.declared.coerce_many.CoerceMany.TheVariants as common
 use Rattle.infer_branches.specs.Own.{AllAtType, IsCommonFrom, AreMerged}
+use Rattle.infer_branches.specs.Words.infer_result.Columns as column
 
 -- ---- what is judged stays so
 module _ (g : Given) (a b : InferenceResult) (x : Extends a b) where
@@ -16,7 +17,7 @@ module _ (g : Given) (a b : InferenceResult) (x : Extends a b) where
   common_kept : (es : List ExprId) (o : Option Ty) (t : Ty) → IsCommonFrom a es o t → IsCommonFrom b es o t
   common_kept es (Some u) t h = h
   common_kept [] None t h = absurd h
-  common_kept (e ∷ es) None t h = x.exprs e t h
+  common_kept (e ∷ es) None t h = x.columns column.type_of_expr e.0 t h
 
   pub merged_kept : (es : List ExprId) (o : Option Ty) (m : CoerceMany) → AreMerged a es o m → AreMerged b es o m
   merged_kept es o common.Nothing h = h
@@ -78,7 +79,7 @@ alternative_demand g r n role e t at is h =
 
 -- what has a type is an expression of the body
 pub has_within : (g : Given) (r : InferenceResult) (e : ExprId) (t : Ty) → IsOfBody g.body r → HasTy r e t → e.0 < length r.expr_mismatches
-has_within g r e t h has = rw (h.mismatches ∙ sym h.exprs) (slice_get_within r.type_of_expr e.0 (Some t) has)
+has_within g r e t h has = rw (h.long column.expr_mismatches ∙ sym (h.long column.type_of_expr)) (slice_get_within r.type_of_expr e.0 (Some t) has)
 
 -- ---- the common type
 
@@ -86,7 +87,7 @@ has_within g r e t h has = rw (h.mismatches ∙ sym h.exprs) (slice_get_within r
 pub common_carried : (r : InferenceResult) (es : List ExprId) (x : Option Ty) (t : Ty) → IsCarriedTable r → IsCarriedExpectation x → IsCommonFrom r es x t → IsCarriedType t
 common_carried r es (Some u) t c k h = subst (λ v. IsCarriedType v) (sym h) k
 common_carried r [] None t c k h = absurd h
-common_carried r (e ∷ es) None t c k h = c.exprs e.0 t h
+common_carried r (e ∷ es) None t c k h = c.each column.type_of_expr e.0 t h
 
 module _ (g : Given) (s : Schedule) (n : ExprId) (role : Role) (e : ExprId) (x : Option Ty) (stands : StandsAs g.body n role e) (is_alternative : IsAlternative role) (expected : IsCarriedExpectation x) where
   -- once the node has the type that is expected of e, it asks for that
@@ -120,7 +121,7 @@ module _ (g : Given) (s : Schedule) (n : ExprId) (role : Role) (e : ExprId) (x :
     misfits : (m : CoerceMany) (u : Ty) → IsCommonFrom mid.result es x u → (u ≡ t → ⊥) → new ≡ with_mismatch mid e (mismatch u t) → (AnyMismatch (with_mismatch mid e (mismatch u t)).result (es ++ e ∷ []) → AreMerged (with_mismatch mid e (mismatch u t)).result (es ++ e ∷ []) x m) → Taken es m old new
     misfits m u h differ is merged =
         let carried : IsCarriedTable mid.result = d.walks.state.carried in
-        let here : IsCarriedType t = carried.exprs e.0 t d.type_is in
+        let here : IsCarriedType t = carried.each column.type_of_expr e.0 t d.type_is in
         let there : IsCarriedType u = common_carried mid.result es x u carried expected h in
         let misfit : IsMisfit g mid.result e (mismatch u t) = record { differ = λ same. differ (same_carried u t there here same); actual = inl d.type_is } in
         let long : e.0 < length mid.result.expr_mismatches = has_within g mid.result e t d.walks.state.of_body d.type_is in

@@ -7,6 +7,7 @@ use Rattle.infer_branches.proofs.Words.{at_kept, alternative_kept, any_kept, ext
 use Rattle.infer_branches.specs.Words.infer_coerce.declared.coerce_many.CoerceMany.TheVariants as common
 use Rattle.infer_branches.specs.Own.{IsIfOf, AllAtType, IsCommonFrom, AreMerged}
 use Rattle.infer_branches.proofs.Alternatives.{Completed, completed_paid, common_carried}
+use Rattle.infer_branches.specs.Words.infer_result.Columns as column
 
 -- ---- what is expected of the branches
 pub less_carried : (x y : Option Ty) → IsLess x y → IsCarriedExpectation x → IsCarriedExpectation y
@@ -92,7 +93,7 @@ module _ (g : Given) (s : Schedule) (n c first : ExprId) (is : IsIfOf g.body n c
         let new : Found = with_mismatch f n (mismatch u unit) in
         let there : IsCarriedType u = common_carried f.result (first ∷ []) y u walks.state.carried (less_carried x y less w.expected) h in
         let misfit : IsMisfit g f.result n (mismatch u unit) = record { differ = λ same. differ (same_carried u unit there carried_unit same); actual = inr (inr (record { condition = c; branch = first; is_if = is }), refl) } in
-        let long : n.0 < length f.result.expr_mismatches = rw walks.state.of_body.mismatches w.within in
+        let long : n.0 < length f.result.expr_mismatches = rw (walks.state.of_body.long column.expr_mismatches) w.within in
         let has = noted_has f n (mismatch u unit) long in
         bare_done new (
         noted_walks g s (PaidBy g n x t) mid f n (mismatch u unit) there carried_unit misfit (unit_asked y u refl h) paid_before
@@ -108,7 +109,7 @@ module _ (g : Given) (s : Schedule) (n c first : ExprId) (is : IsIfOf g.body n c
     merged_done (common.Is u) after new h (inl d) done =
         unit_kept u new h d.1.0 d.1.1 (subst (λ l. CompletesAs y l t) d.0 done)
     merged_done (common.Is u) after new h (inr d) done =
-        let there : AnyMismatch new.result (n ∷ first ∷ []) = subst (λ c. AnyMismatch c.result (n ∷ first ∷ [])) (sym d.1.1) (inl (noted_has f n (mismatch u unit) (rw walks.state.of_body.mismatches w.within))) in
+        let there : AnyMismatch new.result (n ∷ first ∷ []) = subst (λ c. AnyMismatch c.result (n ∷ first ∷ [])) (sym d.1.1) (inl (noted_has f n (mismatch u unit) (rw (walks.state.of_body.long column.expr_mismatches) w.within))) in
         subst (λ e. KindWalked g s n x t mid e) (sym d.1.1) (unit_misfits u h.1 d.1.0 (paid (n ∷ first ∷ []) new.result common.Unknown there (subst (λ l. CompletesAs y l t) d.0 done)))
     merged_done common.Unknown after new h d done =
         subst (λ e. KindWalked g s n x t mid e) (sym d.1) (unit_unknown h (subst (λ l. CompletesAs y l t) d.0 done))

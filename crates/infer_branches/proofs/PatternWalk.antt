@@ -9,6 +9,7 @@ use Rattle.infer_branches.proofs.Words.{follows_twice, closes_before, walking_af
 use Rattle.infer_branches.specs.Own.{BeforeArms, ArmsDone, IsMatchOf}
 use Rattle.infer_branches.proofs.Arms.{after_patterns, all_taken, arms_some, obeys_match, paid_less, pattern_step, patterns_push}
 use Rattle.infer_branches.proofs.InAlternatives.{less_fine, less_under}
+use Rattle.infer_branches.specs.Words.infer_result.Columns as column
 
 -- the arm that is read at this position
 abbrev pub arm_at : List RawArm → ℕ → RawArm
@@ -78,7 +79,7 @@ module _ (g : Given) (s : Schedule) (n d : ExprId) (arms : List RawArm) where
             walk = goes_past _ _ _ _ (λ a. Nothing) (λ a. Nothing) (pat_part (arm_pattern d i) y.pat) other_patterns mid f next here_pattern p.follows
                 (λ a q. ((p.each a q).walks, (p.each a q).clock)) (λ a b m o. o) (λ a q b m o. absurd o);
             fine = fine_grown g.scope f.goals.table next.goals.table t p.follows.grew h.fine;
-            scrutinee_is = λ a q. (p.each a q).walks.extends.exprs d (folded a t) (h.scrutinee_is a (before a q));
+            scrutinee_is = λ a q. (p.each a q).walks.extends.columns column.type_of_expr d.0 (folded a t) (h.scrutinee_is a (before a q));
             made = λ a q.
                 rw (take_more arms i y k) (
                 subst (λ z. ArmPatterns (at_or_mismatch g (found_under a next).result) (take i arms ++ z ∷ []) (folded a t)) is (
@@ -126,7 +127,7 @@ module _ (g : Given) (s : Schedule) (n d : ExprId) (arms : List RawArm) where
                   let e = extends_trans (found_under a f).result (found_under a new).result r z.walks.extends b in
                   obeys_match g r n d arms is (record {
                     scrutinee = folded a t;
-                    comes = e.exprs d (folded a t) (h.scrutinee_is a l);
+                    comes = e.columns column.type_of_expr d.0 (folded a t) (h.scrutinee_is a l);
                     patterns = arm_patterns_kept g _ r e arms (folded a t) made;
                     type = folded a u;
                     has = has;

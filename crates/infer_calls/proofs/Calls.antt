@@ -1,14 +1,18 @@
 -- What a call shows: the item that it calls, and its arguments one after another.
 use Rattle.std.proofs.Common.{List, None, ◌≡◌, ◌∷◌, sym, subst, Some, inl, inr, ℕ, suc, ◌+◌, [], ap, ◌∙◌, arith, slice_get, length, ◌<◌, ◌⊎◌, refl, IsTrue}
 use Rattle.std.proofs.lemmas.List.{length-map}
-use Rattle.infer_calls.specs.Words.{ExprId, CallableDefId, Ty, fn_def_tells, ExprOrPatId, folded, Schedule, type_args, Signature, signature_of, at_args, is_carried_body, inner, argument, arguments, expr_part, parts_of_expr, part_at, IsCarriedType, Given, Demand, IsCallee, ArgsRule, InferenceResult, InferenceDiagnostic, at_or_mismatch, HasTy, HasDiagnostic, WasSeen, At, IsTrueDiagnostic, Seen, IsTrueSeen, has_unknown, Found, with_diagnostic, Nothing, PaidBy, Extends, Walks, IsWalked, IsSeenAs, KindWalked}
+use Rattle.infer_calls.specs.Words.{ExprId, CallableDefId, Ty, fn_def_tells, ExprOrPatId, folded, Schedule, type_args, Signature, signature_of, at_args, is_carried_body, inner, argument, arguments, expr_part, parts_of_expr, part_at, IsCarriedType, Given, Demand, IsCallee, ArgsRule, InferenceResult, InferenceDiagnostic, at_or_mismatch, HasTy, HasDiagnostic, WasSeen, At, IsTrueDiagnostic, Seen, IsTrueSeen, has_unknown, Found, with_diagnostic, Nothing, PaidBy, Extends, Walks, IsWalked, IsSeenAs, KindWalked, IsOfBody}
 use Rattle.hir_types.specs.declared.ty.Ty.TheVariants as ty
 use Rattle.hir_types.specs.declared.ids.ExprOrPatId.TheVariants as node
 use Rattle.infer_calls.specs.Words.hir_raw.declared.raw.RawExpr.TheVariants as expr
 use Rattle.infer_calls.specs.Words.infer_result.Unknown.{IsKnown}
 use Rattle.infer_calls.specs.Words.infer_result.declared.diagnostics.InferenceDiagnostic.TheVariants as diagnostic
+use Rattle.infer_calls.specs.Words.infer_result.Columns.{Column, Entry, col, IsIn, AllInDiagnostic}
+use Rattle.infer_calls.specs.Words.infer_result.Columns as column
 use Rattle.infer_calls.specs.Words.infer_ctx.Found.{with_seen}
-use Rattle.infer_calls.proofs.Words.{arguments_in_order, walks_paid, walks_trans, expr_at, expr_id, noted-keeps, noted-cases, noted-some, length-noted, same_or_not, slice_get-append_left, slice_get-push, args_kept, callee_kept, diagnostic_kept, seen_as_kept, true_seen_kept, rule_of, push_cases, length-said_of, said_of-cases, said_of-keeps, said_of-own}
+use Rattle.infer_calls.specs.Words.infer_ctx.Said.{said_of}
+use Rattle.infer_calls.specs.Words.infer_ctx.Walks.{IsCarriedTable, StaysIn}
+use Rattle.infer_calls.proofs.Words.{columns_written, long_beside, long_with, types_beside, types_with, arguments_in_order, walks_paid, walks_trans, expr_at, expr_id, noted-keeps, noted-cases, noted-some, length-noted, same_or_not, slice_get-append_left, slice_get-push, args_kept, callee_kept, diagnostic_kept, seen_as_kept, true_seen_kept, rule_of, push_cases, length-said_of, said_of-cases, said_of-keeps, said_of-own}
 use Rattle.infer_calls.specs.Own.{ComesToArgs, ComesToUncallable, IsCalling, inputs_at, ArgsWalked, ComesToLoose, LooseWalked}
 
 -- ---- what the call asks of its arguments
@@ -20,7 +24,7 @@ module _ (g : Given) (n called : ExprId) (args : List ExprId) (id : CallableDefI
   input_count = length-map σ.inputs (at_args ts)
 
   calls : (r : InferenceResult) → Extends c.result r → IsCallee g r called σ ts
-  calls r k = record { item = id; has = k.exprs called _ h.has; signature = h.found }
+  calls r k = record { item = id; has = k.columns column.type_of_expr called.0 _ h.has; signature = h.found }
 
   pub input_demand : IsTrue (is_carried_body g.body) → (i : ℕ) (e : ExprId) (u : Ty) (r : InferenceResult) → Extends c.result r → slice_get args i ≡ Some e → slice_get taken i ≡ Some u → Demand g r e u
   input_demand carried i e u r k found input =
@@ -55,17 +59,7 @@ module _ (g : Given) (s : Schedule) (n called : ExprId) (args : List ExprId) (id
 
   pub complained_extends : Extends mid.result (with_diagnostic mid n complaint).result
   complained_extends = record {
-    exprs = λ e t h. h;
-    pats = λ p t h. h;
-    bindings = λ v t h. h;
-    modes = λ p m h. h;
-    pat_diagnostics = λ p d h. h;
-    expr_variants = λ n v h. h;
-    pat_variants = λ p v h. h;
-    mismatches = λ e m h. h;
-    pat_mismatches = λ p m h. h;
-    placeholders = λ k t h. h;
-    items = λ p t h. h;
+    columns = columns_written mid.result column.expr_diagnostics _ (λ m d h. tt);
     diagnostics = λ e d h. inl (noted-keeps mid.result.expr_diagnostics n.0 e.0 complaint d h);
     seen = λ e h. record { position = h.position; entry = h.entry; found = h.found; is_node = h.is_node };
   }
@@ -116,19 +110,11 @@ module _ (g : Given) (s : Schedule) (n called : ExprId) (args : List ExprId) (id
 
     told_walked : IsWalked g s told
     told_walked = record {
-      of_body = assumption (length-noted mid.result.expr_diagnostics n.0 complaint ∙ b.state.of_body.diagnostics, b.state.of_body);
-      carried = record {
-        exprs = b.state.carried.exprs;
-        pats = b.state.carried.pats;
-        bindings = b.state.carried.bindings;
-        placeholders = b.state.carried.placeholders;
-        items = b.state.carried.items;
-        found = λ m k t i. elim (noted-cases mid.result.expr_diagnostics n.0 m complaint (diagnostic.ExpectedFunction k t) i) [ inl q ↦ b.state.carried.found m k t q | inr q ↦ absurd (let clash = q.1 in cc) ];
-        expected = b.state.carried.expected;
-        actual = b.state.carried.actual;
-        pat_expected = b.state.carried.pat_expected;
-        pat_actual = b.state.carried.pat_actual;
-      };
+      of_body = long_with g.body mid.result column.expr_diagnostics _ (length-noted mid.result.expr_diagnostics n.0 complaint ∙ b.state.of_body.long column.expr_diagnostics) b.state.of_body;
+      carried = types_with IsCarriedType mid.result column.expr_diagnostics _ (λ m d i. elim (noted-cases mid.result.expr_diagnostics n.0 m complaint d i) [
+        | inl q ↦ b.state.carried.each column.expr_diagnostics m d q
+        | inr q ↦ subst (AllInDiagnostic IsCarriedType) q.1 tt
+      ]) b.state.carried;
       modes = b.state.modes;
       pat_diagnostics = b.state.pat_diagnostics;
       variants = record { exprs = b.state.variants.exprs; pats = b.state.variants.pats };
@@ -166,7 +152,7 @@ module _ (g : Given) (s : Schedule) (n called : ExprId) (args : List ExprId) (id
     -- it stands there, or what is called was seen to be no function
     told_has : HasDiagnostic told.result n complaint ⊎ WasSeen told.result n
     told_has =
-        let within : n.0 < length mid.result.expr_diagnostics = rw b.state.of_body.diagnostics b.calling.within in
+        let within : n.0 < length mid.result.expr_diagnostics = rw (b.state.of_body.long column.expr_diagnostics) b.calling.within in
         let y = noted-some mid.result.expr_diagnostics n.0 complaint within in
         elim (noted-cases mid.result.expr_diagnostics n.0 n.0 complaint y.0 y.1) [
           | inl q ↦ elim (same_complaint y.0 (b.state.diagnostics n y.0 q)) [
@@ -220,21 +206,15 @@ module _ (g : Given) (s : Schedule) (n called : ExprId) (args : List ExprId) (t 
   -- what was there stays, but another complaint at the call
   saw_extends : Extends mid.result saw.result
   saw_extends = record {
-    exprs = λ e u h. h;
-    pats = λ p u h. h;
-    bindings = λ v u h. h;
-    modes = λ p m h. h;
-    pat_diagnostics = λ p d h. h;
-    expr_variants = λ n v h. h;
-    pat_variants = λ p v h. h;
-    mismatches = λ e m h. h;
-    pat_mismatches = λ p m h. h;
-    placeholders = λ k u h. h;
-    items = λ p u h. h;
+    columns = columns_kept;
     diagnostics = λ e d h. elim (said_of-keeps mid.holes mid.result.expr_diagnostics y e.0 d h) [ inl k ↦ inl k | inr k ↦ inr (own_seen e k) ];
     seen = λ e h. record { position = h.position; entry = h.entry; found = slice_get-append_left mid.result.seen (y ∷ []) h.position h.entry h.found; is_node = h.is_node };
   }
     where
+      columns_kept : (c : Column) (m : ℕ) (x : Entry c) → IsIn mid.result c m x → StaysIn c (col saw.result c) m x
+      columns_kept column.expr_diagnostics m x h = tt
+      columns_kept c m x h = h
+
       own_seen : (e : ExprId) → y.node ≡ node.ExprId (record { 0 = e.0 }) → WasSeen saw.result e
       own_seen e is = record { position = length mid.result.seen; entry = y; found = slice_get-push mid.result.seen y; is_node = is }
 
@@ -274,7 +254,7 @@ module _ (g : Given) (s : Schedule) (n called : ExprId) (args : List ExprId) (t 
       let typed : Some (Some u) ≡ Some (Some t) = sym (subst (λ e. HasTy saw.result e u) same has) ∙ b.has in
       let one : u ≡ t = cc in
       let is_u : folded mid.holes y.ty ≡ u = is_type ∙ sym one in
-      let within : n.0 < length mid.result.expr_diagnostics = rw b.loose.state.of_body.diagnostics b.loose.within in
+      let within : n.0 < length mid.result.expr_diagnostics = rw (b.loose.state.of_body.long column.expr_diagnostics) b.loose.within in
       let stands : At saw.result.expr_diagnostics n.0 (diagnostic.ExpectedFunction n (folded mid.holes y.ty)) = said_of-own mid.holes mid.result.expr_diagnostics y n is_node (ap has_unknown is_u ∙ known) within in
       subst (λ e. HasDiagnostic saw.result e (diagnostic.ExpectedFunction e u)) (sym own) (subst (λ w. HasDiagnostic saw.result n (diagnostic.ExpectedFunction n w)) is_u stands)
 
@@ -304,24 +284,23 @@ module _ (g : Given) (s : Schedule) (n called : ExprId) (args : List ExprId) (t 
     recorded = recorded_here y is_type is_node;
   }
 
+  -- the columns of what was seen, and of what is said of it
+  abbrev said_columns : InferenceResult
+  said_columns = record mid.result { expr_diagnostics = said_of mid.holes mid.result.expr_diagnostics y }
+
+  said_long : IsOfBody g.body said_columns
+  said_long = long_with g.body mid.result column.expr_diagnostics _ (length-said_of mid.holes mid.result.expr_diagnostics y ∙ b.loose.state.of_body.long column.expr_diagnostics) b.loose.state.of_body
+
+  said_carried : IsCarriedTable said_columns
+  said_carried = types_with IsCarriedType mid.result column.expr_diagnostics _ (λ m d i. elim (said_of-cases mid.holes mid.result.expr_diagnostics y m d i) [
+    | inl q ↦ b.loose.state.carried.each column.expr_diagnostics m d q
+    | inr q ↦ subst (AllInDiagnostic IsCarriedType) (sym q.is) (subst (λ w. IsCarriedType w) (sym is_type) carried)
+  ]) b.loose.state.carried
+
   saw_walked : IsWalked g s saw
   saw_walked = record {
-    of_body = assumption (length-said_of mid.holes mid.result.expr_diagnostics y ∙ b.loose.state.of_body.diagnostics, b.loose.state.of_body);
-    carried = record {
-      exprs = b.loose.state.carried.exprs;
-      pats = b.loose.state.carried.pats;
-      bindings = b.loose.state.carried.bindings;
-      placeholders = b.loose.state.carried.placeholders;
-      items = b.loose.state.carried.items;
-      expected = b.loose.state.carried.expected;
-      actual = b.loose.state.carried.actual;
-      pat_expected = b.loose.state.carried.pat_expected;
-      pat_actual = b.loose.state.carried.pat_actual;
-      found = λ m k u i. elim (said_of-cases mid.holes mid.result.expr_diagnostics y m (diagnostic.ExpectedFunction k u) i) [
-        | inl q ↦ b.loose.state.carried.found m k u q
-        | inr q ↦ (let same : u ≡ folded mid.holes y.ty = (let clash = q.is in cc) in subst (λ w. IsCarriedType w) (sym (same ∙ is_type)) carried)
-      ];
-    };
+    of_body = long_beside g.body said_columns saw.result said_long;
+    carried = types_beside IsCarriedType said_columns saw.result said_carried;
     modes = b.loose.state.modes;
     pat_diagnostics = b.loose.state.pat_diagnostics;
     variants = record { exprs = b.loose.state.variants.exprs; pats = b.loose.state.variants.pats };

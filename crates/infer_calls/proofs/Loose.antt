@@ -5,6 +5,7 @@ use Rattle.infer_calls.specs.Words.{ExprId, Ty, Assignment, folded, inner, argum
 use Rattle.hir_types.specs.declared.ids.ExprOrPatId.TheVariants as node
 use Rattle.infer_calls.proofs.Words.{closes_before, follows_itself, follows_twice, walks_refl, same_found, fine_grown, AtPart, comes_to_part, past_own_part, binds_on, all_past, extends_trans, earlier_or_here, settled_later}
 use Rattle.infer_calls.specs.Own.{BeforeLoose, IsMet, LooseDone}
+use Rattle.infer_calls.specs.Words.infer_result.Columns as column
 
 -- the first i of them are typed
 pub record AtLoose (g : Given) (s : Schedule) (n : ExprId) (args : List ExprId) (ss : List Ty) (i : ℕ) (mid c : InferenceContext) : Type 0 where
@@ -63,7 +64,7 @@ module _ (g : Given) (s : Schedule) (n : ExprId) (args : List ExprId) (ss : List
               let f : Follows g c last = follows_twice g c next last d.follows o.follows in
               record {
                 type = m.type;
-                has = λ a q. as_found a b (folded a m.type) ((typed_last a q).walks.extends.exprs b (folded a m.type) (m.has a (closes_before g a c last f q)));
+                has = λ a q. as_found a b (folded a m.type) ((typed_last a q).walks.extends.columns column.type_of_expr b.0 (folded a m.type) (m.has a (closes_before g a c last f q)));
                 settled = settled_later g c last m.type u f m.settled;
               }
 

@@ -11,6 +11,7 @@ use Rattle.infer_calls.specs.Own.{BeforeUncallable, IsCallOf, BeforeLoose, Loose
 use Rattle.infer_calls.proofs.Calls.{saw_loose, uncallable_done}
 use Rattle.infer_calls.proofs.CallWalk.{call_parts}
 use Rattle.infer_calls.proofs.Callees.{known_fine, known_same, known_tells, no_path, not_callable}
+use Rattle.infer_calls.specs.Words.infer_result.Columns as column
 
 -- ---- what is called is typed, and is no item
 module _ (g : Given) (s : Schedule) (n called : ExprId) (args : List ExprId) (c : InferenceContext) (h : Within g s n None c) (is : IsCallOf g.body n called args) (t u : Ty) (mid : InferenceContext) (d : OwnDone g s called None t c mid) (known : u ≡ resolved_type mid.goals.table t) (made : AllOf mid.goals.table.substitution.kinds (bindings mid.goals.table)) (none : (id : CallableDefId) (xs : List GenericArg) → u ≡ ty.FnDef id xs → ⊥) where
@@ -64,7 +65,7 @@ module _ (g : Given) (s : Schedule) (n : ExprId) (args : List ExprId) (u : Ty) (
       is_call = h.is_call;
       alone = refl;
       type = folded a u;
-      has = x.exprs h.called (folded a u) (h.each a q).has;
+      has = x.columns column.type_of_expr h.called.0 (folded a u) (h.each a q).has;
       instance = record { types = a; integers = q.closing.int_var; is = refl };
       not_callable = not_callable g.scope u h.fine.heads h.no_item;
       no_item = h.no_path;

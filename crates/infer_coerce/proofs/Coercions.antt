@@ -3,11 +3,12 @@ use Rattle.std.proofs.Common.{◌<◌, ◌≡◌, ◌⊎◌, inl, inr, Bool, tru
 use Rattle.infer_coerce.specs.Words.{ExprId, Ty, erased, Schedule, IsCarriedType, same_carried, HasTy, mismatch, Given, IsAtOrMismatch, Demand, IsMisfit, InferenceResult, TypeMismatch, Found, Walks, Debt, Owed, IsCarriedTable, Nothing, ComesTo, OwnWalked, CoerceWalked, IsPlaced, IsCarriedExpectation}
 use Rattle.infer_coerce.proofs.Words.{noted_has, noted_walks, walks_paid}
 use Rattle.infer_coerce.specs.Own.{IsCoercedIf}
+use Rattle.infer_result.specs.Columns as column
 
 -- an expression that has the type t is at u, or that it is not is noted
 module _ (g : Given) (s : Schedule) (P : Debt) (e : ExprId) (t u : Ty) (old mid : Found) (walks : Walks g s P old mid) (within : e.0 < length g.body.exprs) (has : HasTy mid.result e t) (carried : IsCarriedType u) where
   carried_own : IsCarriedType t
-  carried_own = walks.state.carried.exprs e.0 t has
+  carried_own = walks.state.carried.each column.type_of_expr e.0 t has
 
   own_misfit : (u ≡ t → ⊥) → IsMisfit g mid.result e (mismatch u t)
   own_misfit differ = record { differ = λ same. differ (same_carried u t carried carried_own same); actual = inl has }
@@ -20,7 +21,7 @@ module _ (g : Given) (s : Schedule) (P : Debt) (e : ExprId) (t u : Ty) (old mid 
   pub coerced_placed : (fits : Bool) (new : Found) → IsCoercedIf fits e t u mid new → IsAtOrMismatch new.result e u
   coerced_placed true new k = subst (λ c. IsAtOrMismatch c.result e u) (sym k.1) (t, has, inl (ap erased k.0))
   coerced_placed false new k =
-      let long : e.0 < length mid.result.expr_mismatches = rw walks.state.of_body.mismatches within in
+      let long : e.0 < length mid.result.expr_mismatches = rw (walks.state.of_body.long column.expr_mismatches) within in
       subst (λ c. IsAtOrMismatch c.result e u) (sym k.1) (t, has, inr (noted_has mid e (mismatch u t) long))
 
 pub coerced_clock : (fits : Bool) (e : ExprId) (t u : Ty) (old new : Found) → IsCoercedIf fits e t u old new → new.clock ≡ old.clock
@@ -49,7 +50,7 @@ placed_at r e None t h = (t, h, inl refl)
 placed_at r e (Some u) t h = subst (λ v. IsAtOrMismatch r e v) (sym h.0) h.1
 
 pub placed_carried : (r : InferenceResult) (e : ExprId) (x : Option Ty) (t : Ty) → IsCarriedTable r → IsCarriedExpectation x → IsPlaced r e x t → IsCarriedType t
-placed_carried r e None t c i h = c.exprs e.0 t h
+placed_carried r e None t c i h = c.each column.type_of_expr e.0 t h
 placed_carried r e (Some u) t c i h = subst (λ v. IsCarriedType v) (sym h.0) i
 
 pub placed_owed : (r : InferenceResult) (e : ExprId) (x : Option Ty) (t : Ty) → IsPlaced r e x t → (n : ExprId) (m : TypeMismatch) → Owed e x n m → (n ≡ e) × (m.expected ≡ t)

@@ -9,6 +9,7 @@ pub use Rattle.infer_ctx.proofs.Words.{get_in_map, args_holes, type_under, liste
 pub use Rattle.infer_ctx.proofs.Words.{concrete_within}
 pub use Rattle.infer_ctx.proofs.Words.{mapped_get}
 pub use Rattle.infer_ctx.proofs.Words.{asked_counted, none_counted, went_counted, append_get, went_grew}
+pub use Rattle.infer_ctx.proofs.Words.{columns_are, entries_all_under, entries_long, every_type, long_beside, long_with, types_beside, types_with}
 pub use Rattle.infer_ctx.proofs.Words.{derivation_of, ctor_type_of_tuple, ctor_type_of_unit, typed_by_schedule}
 pub use Rattle.infer_ctx.proofs.Asked.{told_beside, told_same, told_with}
 pub use Rattle.infer_ctx.proofs.AtEach.{before_under, closes_before, expected_carried, follows_itself, follows_twice, walking_after, within_under}
@@ -20,7 +21,7 @@ pub use Rattle.infer_ctx.proofs.FineTypes.{all_fine_grown, every_at, every_from,
 pub use Rattle.infer_ctx.proofs.InParts.{AtPart, WalksParts, all_past, begins_parts, binds_on, comes_to, comes_to_part, expr_at, goes_past, goes_past_coerced, goes_past_own, past_coerced_part, past_own_part}
 pub use Rattle.infer_ctx.proofs.Instances.{fine_instance, fine_instances, instances_under, known_instance}
 pub use Rattle.infer_ctx.proofs.Items.{item_with, named_function, named_variant, signature_count, tuple_signature, variant_with}
-pub use Rattle.infer_ctx.proofs.Keeps.{all_kept, all_pats_kept, alternative_kept, any_kept, args_kept, arm_patterns_kept, arms_kept, at_kept, callee_kept, declared_kept, demand_kept, diagnostic_kept, extends_refl, extends_trans, guard_kept, hole_at, incoming_kept, is_at_kept, misfit_kept, obeys_kept, pat_at_kept, pat_kept, pat_of_kept, pat_truth_kept, recorded_kept, seen_as_entered, seen_as_kept, stmts_kept, tail_kept, true_seen_kept}
+pub use Rattle.infer_ctx.proofs.Keeps.{all_kept, all_pats_kept, alternative_kept, any_kept, args_kept, arm_patterns_kept, arms_kept, at_kept, callee_kept, columns_beside, columns_written, declared_kept, demand_kept, diagnostic_kept, extends_refl, extends_trans, guard_kept, hole_at, incoming_kept, is_at_kept, misfit_kept, obeys_kept, pat_at_kept, pat_kept, pat_of_kept, pat_truth_kept, recorded_kept, seen_as_entered, seen_as_kept, stmts_kept, tail_kept, true_seen_kept}
 pub use Rattle.infer_ctx.proofs.Leaves.{leaf_done, literal_done, rule_of}
 pub use Rattle.infer_ctx.proofs.Lists.{At-put, At-set, At-set_cases, drop-step, found, length-noted, length-own_set, lt_or_ge, noted-cases, noted-keeps, noted-some, own_set, own_set-at, own_set-cases, own_set-other, put-cases, put-here, same_or_not, slice_get-append_left, slice_get-push, slice_get-set_other, slice_get-set_same, take_next}
 pub use Rattle.infer_ctx.proofs.Noted.{noted_extends, noted_has, noted_walks}

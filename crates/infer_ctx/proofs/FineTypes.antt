@@ -7,7 +7,7 @@ use Rattle.hir_types.specs.declared.head.Hole.TheVariants as hole_of
 use Rattle.hir_types.specs.declared.head.HoleKind.TheVariants as kind
 use Rattle.hir_types.specs.declared.ty.IntegerTy.TheVariants as integer
 use Rattle.hir_types.specs.declared.ty.Ty.TheVariants as ty
-use Rattle.infer_ctx.proofs.Words.{get_last}
+use Rattle.infer_ctx.proofs.Words.{every_type, get_last}
 use Rattle.infer_ctx.specs.Own.{IsFine, Every, AllFine, item_params, is_fine_head, HasFineHeads, IsFineExpectation, AreFinePairs, IsFineAsked, component, element_type}
 use Rattle.infer_ctx.proofs.MadeHoles.{AllHolesAreOf, holes_are_of_grown, node_holes_are_of}
 
@@ -188,18 +188,7 @@ module _ (sc : Scope) where
   all_fine_grown s t ts g h = every_same (IsFine sc s) (IsFine sc t) ts (λ x k. fine_grown s t x g k) h
 
   pub table_fine_grown : (s t : State) (r : InferenceResult) → Grew s t → AllTypes (IsFine sc s) r → AllTypes (IsFine sc t) r
-  table_fine_grown s t r g h = record {
-    exprs = λ n x i. fine_grown s t x g (h.exprs n x i);
-    pats = λ n x i. fine_grown s t x g (h.pats n x i);
-    bindings = λ n x i. fine_grown s t x g (h.bindings n x i);
-    placeholders = λ n x i. fine_grown s t x g (h.placeholders n x i);
-    items = λ n x i. fine_grown s t x g (h.items n x i);
-    found = λ n c x i. fine_grown s t x g (h.found n c x i);
-    expected = λ n x i. fine_grown s t x.expected g (h.expected n x i);
-    actual = λ n x i. fine_grown s t x.actual g (h.actual n x i);
-    pat_expected = λ n x i. fine_grown s t x.expected g (h.pat_expected n x i);
-    pat_actual = λ n x i. fine_grown s t x.actual g (h.pat_actual n x i);
-  }
+  table_fine_grown s t r g h = every_type (IsFine sc s) (IsFine sc t) r (λ x k. fine_grown s t x g k) h
 
   pub seen_fine_grown : (s t : State) (r : InferenceResult) → Grew s t → AllSeen (IsFine sc s) r → AllSeen (IsFine sc t) r
   seen_fine_grown s t r g h = record {

@@ -4,24 +4,16 @@ use Rattle.infer_ctx.specs.Words.{ExprId, Schedule, IsCarriedType, TypeMismatch,
 use Rattle.infer_ctx.specs.Own.{Found, Extends, IsWalked, Walks, Debt}
 use Rattle.infer_ctx.specs.Found.{with_mismatch}
 use Rattle.infer_ctx.proofs.Lists.{noted-keeps, noted-some, noted-cases, length-noted}
-use Rattle.infer_ctx.proofs.Keeps.{diagnostic_kept, seen_as_kept, extends_trans, obeys_kept, pat_kept, pat_truth_kept, misfit_kept, demand_kept}
+use Rattle.infer_ctx.proofs.Words.{long_with, types_with}
+use Rattle.infer_ctx.proofs.Keeps.{columns_written, diagnostic_kept, seen_as_kept, extends_trans, obeys_kept, pat_kept, pat_truth_kept, misfit_kept, demand_kept}
 use Rattle.infer_ctx.proofs.Parts.{expr_id}
+use Rattle.infer_result.specs.Columns as column
 
 pub noted_extends : (c : Found) (e : ExprId) (m : TypeMismatch) → Extends c.result (with_mismatch c e m).result
 noted_extends c e m = record {
-  exprs = λ n t h. h;
-  pats = λ p t h. h;
-  bindings = λ v t h. h;
-  modes = λ p k h. h;
-  mismatches = λ n y h. noted-keeps c.result.expr_mismatches e.0 n.0 m y h;
-  pat_mismatches = λ p y h. h;
-  placeholders = λ k t h. h;
-  items = λ p t h. h;
+  columns = columns_written c.result column.expr_mismatches _ (λ n x h. noted-keeps c.result.expr_mismatches e.0 n m x h);
   diagnostics = λ n d h. inl h;
   seen = λ n h. record { position = h.position; entry = h.entry; found = h.found; is_node = h.is_node };
-  pat_diagnostics = λ p d h. h;
-  expr_variants = λ n v h. h;
-  pat_variants = λ p v h. h;
 }
 
 pub noted_has : (c : Found) (e : ExprId) (m : TypeMismatch) → e.0 < length c.result.expr_mismatches → HasMismatch (with_mismatch c e m).result e
@@ -29,19 +21,11 @@ noted_has c e m h = noted-some c.result.expr_mismatches e.0 m h
 
 pub noted_walked : (g : Given) (s : Schedule) (c : Found) (e : ExprId) (m : TypeMismatch) → IsCarriedType m.expected → IsCarriedType m.actual → IsWalked g s c → IsWalked g s (with_mismatch c e m)
 noted_walked g s c e m x y h = record {
-  of_body = assumption (length-noted c.result.expr_mismatches e.0 m ∙ h.of_body.mismatches, h.of_body);
-  carried = record {
-    exprs = h.carried.exprs;
-    pats = h.carried.pats;
-    bindings = h.carried.bindings;
-    placeholders = h.carried.placeholders;
-    items = h.carried.items;
-    found = h.carried.found;
-    expected = λ n k i. elim (noted-cases c.result.expr_mismatches e.0 n m k i) [ inl q ↦ h.carried.expected n k q | inr q ↦ subst (λ z. IsCarriedType z.expected) q.1 x ];
-    actual = λ n k i. elim (noted-cases c.result.expr_mismatches e.0 n m k i) [ inl q ↦ h.carried.actual n k q | inr q ↦ subst (λ z. IsCarriedType z.actual) q.1 y ];
-    pat_expected = h.carried.pat_expected;
-    pat_actual = h.carried.pat_actual;
-  };
+  of_body = long_with g.body c.result column.expr_mismatches _ (length-noted c.result.expr_mismatches e.0 m ∙ h.of_body.long column.expr_mismatches) h.of_body;
+  carried = types_with IsCarriedType c.result column.expr_mismatches _ (λ n k i. elim (noted-cases c.result.expr_mismatches e.0 n m k i) [
+    | inl q ↦ h.carried.each column.expr_mismatches n k q
+    | inr q ↦ subst (λ z. IsCarriedType z.expected × IsCarriedType z.actual) q.1 (x, y)
+  ]) h.carried;
   modes = h.modes;
   pat_diagnostics = h.pat_diagnostics;
   variants = record { exprs = h.variants.exprs; pats = h.variants.pats };

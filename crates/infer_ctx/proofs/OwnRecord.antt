@@ -6,7 +6,9 @@ use Rattle.infer_ctx.specs.Own.{Found, entered, pat_start, IsCarriedTable, IsWal
 use Rattle.infer_ctx.specs.Found.{with_expr_ty}
 use Rattle.infer_ctx.proofs.Lists.{lt_or_ge, slice_get-set_same, slice_get-set_other, At-set, At-set_cases}
 use Rattle.infer_ctx.proofs.Parts.{expr_is_no_pat, binds_within, expr_id, one_expr}
-use Rattle.infer_ctx.proofs.Keeps.{seen_as_entered, extends_trans, obeys_kept, pat_kept, pat_truth_kept, diagnostic_kept, seen_as_kept, misfit_kept, demand_kept}
+use Rattle.infer_ctx.proofs.Words.{long_with, types_with}
+use Rattle.infer_ctx.proofs.Keeps.{columns_written, seen_as_entered, extends_trans, obeys_kept, pat_kept, pat_truth_kept, diagnostic_kept, seen_as_kept, misfit_kept, demand_kept}
+use Rattle.infer_result.specs.Columns as column
 
 -- the clock goes on to the parts of the expression
 pub entered_within : (g : Given) (s : Schedule) (e : ExprId) (x : Option Ty) (c : Found) → ComesTo g s e x c → IsInside g s e x (entered c)
@@ -48,21 +50,11 @@ module _ (g : Given) (s : Schedule) (e : ExprId) (x : Option Ty) (t : Ty) (old l
   free_type = k.walks.kept e h.within (omega (arith, h.here)) ∙ h.state.free_exprs e h.within (omega (arith, h.here))
 
   long : e.0 < length last.result.type_of_expr
-  long = rw k.walks.state.of_body.exprs h.within
+  long = rw (k.walks.state.of_body.long column.type_of_expr) h.within
 
   extends : Extends last.result new.result
   extends = record {
-    exprs = λ n u i. At-set last.result.type_of_expr e.0 n.0 t u free_type i;
-    pats = λ p u i. i;
-    bindings = λ v u i. i;
-    modes = λ p m i. i;
-    pat_diagnostics = λ p d i. i;
-    expr_variants = λ n v i. i;
-    pat_variants = λ p v i. i;
-    mismatches = λ n m i. i;
-    pat_mismatches = λ p m i. i;
-    placeholders = λ k u i. i;
-    items = λ p u i. i;
+    columns = columns_written last.result column.type_of_expr _ (λ n u i. At-set last.result.type_of_expr e.0 n t u free_type i);
     diagnostics = λ n d i. inl i;
     seen = λ n h. record { position = h.position; entry = h.entry; found = h.found; is_node = h.is_node };
   }
@@ -78,28 +70,14 @@ module _ (g : Given) (s : Schedule) (e : ExprId) (x : Option Ty) (t : Ty) (old l
   other_type n ne = slice_get-set_other last.result.type_of_expr e.0 n.0 (Some t) (other n ne)
 
   carried : IsCarriedTable new.result
-  carried =
-      let c = k.walks.state.carried in
-      record {
-        exprs = λ n u i.
-            elim (At-set_cases last.result.type_of_expr e.0 n t u long i) [
-              | inl q ↦ c.exprs n u q
-              | inr q ↦ subst (λ v. IsCarriedType v) q.1 k.carried
-            ];
-        pats = c.pats;
-        bindings = c.bindings;
-        placeholders = c.placeholders;
-        items = c.items;
-        found = c.found;
-        expected = c.expected;
-        actual = c.actual;
-        pat_expected = c.pat_expected;
-        pat_actual = c.pat_actual;
-      }
+  carried = types_with IsCarriedType last.result column.type_of_expr _ (λ n u i. elim (At-set_cases last.result.type_of_expr e.0 n t u long i) [
+    | inl q ↦ k.walks.state.carried.each column.type_of_expr n u q
+    | inr q ↦ subst (λ v. IsCarriedType v) q.1 k.carried
+  ]) k.walks.state.carried
 
   state : IsWalked g s new
   state = record {
-    of_body = assumption (length-set last.result.type_of_expr e.0 (Some t) ∙ k.walks.state.of_body.exprs, k.walks.state.of_body);
+    of_body = long_with g.body last.result column.type_of_expr _ (length-set last.result.type_of_expr e.0 (Some t) ∙ k.walks.state.of_body.long column.type_of_expr) k.walks.state.of_body;
     carried = carried;
     modes = k.walks.state.modes;
     pat_diagnostics = k.walks.state.pat_diagnostics;

@@ -2,8 +2,8 @@
 use Rattle.std.proofs.Common.{ℕ, zero, suc, ◌≡◌, refl, sym, ap, ◌∙◌, List, [], ◌∷◌, map, length, Option, Some, None, option_map, slice_get, slice_set, ◌⊎◌, inl, inr, Bool, true, false, ◌++◌, ◌+◌, take, subst}
 use Rattle.std.proofs.lemmas.List.{length-map, map-set, length-set, map-append}
 use Rattle.std.proofs.lemmas.Option.{slice_get-map}
-use Rattle.infer_ctx.specs.Words.{Assignment, folded, BindingId, ExprId, PatId, Ty, terms_of, Term, Hole, RawBody, Scope, bindings, State, Meets, Grew, solves_left, Log, Solves, entry, Waiting, waiting, At, TypeMismatch, InferenceResult, IsOfBody, AllTypes, AllSeen, BindingMode, Seen, InferenceDiagnostic}
-use Rattle.infer_ctx.proofs.Words.{ty_decides}
+use Rattle.infer_ctx.specs.Words.{Assignment, folded, BindingId, ExprId, PatId, Ty, terms_of, Term, Hole, RawBody, Scope, bindings, State, Meets, Grew, solves_left, Log, Solves, entry, Waiting, waiting, At, TypeMismatch, InferenceResult, Column, entry_kind, index, col, IsLong, AllInDiagnostic, IsOfBody, AllTypes, AllSeen, BindingMode, Seen, InferenceDiagnostic}
+use Rattle.infer_ctx.proofs.Words.{ty_decides, entries_long, long_beside, long_with, types_beside, types_with}
 use Rattle.infer_ctx.specs.Words.infer_table.Solutions.{log_of}
 use Rattle.infer_result.specs.declared.modes.BindingMode.TheVariants as mode
 use Rattle.infer_result.specs.declared.diagnostics.InferenceDiagnostic.TheVariants as diagnostic
@@ -12,6 +12,7 @@ use Rattle.infer_ctx.specs.Found as found
 use Rattle.infer_ctx.specs.Context as context
 use Rattle.infer_ctx.proofs.Lists.{take_next, length-noted, noted-cases, put-cases}
 use Rattle.infer_ctx.proofs.Said.{noted-cons, length-said, said-noted, said-push}
+use Rattle.infer_result.specs.Columns as column
 
 -- ---- lists of what is recorded, each under a function
 module _ {A B : Type 0} (f : A → B) where
@@ -166,48 +167,45 @@ module _ (a : Assignment) where
 -- ---- tables of a body
 
 pub of_body_unclosed : (a : Assignment) (b : RawBody) (asked : List (Option TypeMismatch)) (r : InferenceResult) → IsOfBody b (closed_table a asked r) → IsOfBody b r
-of_body_unclosed a b asked r h = assumption (
-  sym (length-closed (folded a) r.type_of_expr) ∙ h.exprs,
-  sym (length-closed (folded a) r.type_of_pat) ∙ h.pats,
-  sym (length-closed (folded a) r.type_of_binding) ∙ h.bindings,
-  sym (length-closed (folded a) r.item_of_pat) ∙ h.items,
-  sym (length-closed_mismatches a asked r.expr_mismatches) ∙ h.mismatches,
-  sym (length-closed (closed_mismatch a) r.pat_mismatches) ∙ h.pat_mismatches,
-  sym (length-said a r.seen r.expr_diagnostics) ∙ h.diagnostics,
-  h,
-)
+of_body_unclosed a b asked r h = record { long = long }
+  where
+    long : (c : Column) → IsLong b (index c) (length (col r c))
+    long column.type_of_placeholder = tt
+    long column.expr_mismatches = sym (length-closed_mismatches a asked r.expr_mismatches) ∙ h.long column.expr_mismatches
+    long column.expr_diagnostics = sym (length-said a r.seen r.expr_diagnostics) ∙ h.long column.expr_diagnostics
+    long c = sym (entries_long a (entry_kind c) (col r c)) ∙ h.long c
 
 -- a write leaves the lists as long as they are
 module _ (b : RawBody) (c : InferenceContext) (h : IsOfBody b c.result) where
   pub of_body_expr_ty : (e : ExprId) (t : Ty) → IsOfBody b (context.with_expr_ty c e t).result
-  of_body_expr_ty e t = assumption (length-set c.result.type_of_expr e.0 (Some t) ∙ h.exprs, h)
+  of_body_expr_ty e t = long_with b c.result column.type_of_expr _ (length-set c.result.type_of_expr e.0 (Some t) ∙ h.long column.type_of_expr) h
 
   pub of_body_mismatch : (e : ExprId) (m : TypeMismatch) → IsOfBody b (context.with_mismatch c e m).result
-  of_body_mismatch e m = assumption (length-noted c.result.expr_mismatches e.0 m ∙ h.mismatches, h)
+  of_body_mismatch e m = long_with b c.result column.expr_mismatches _ (length-noted c.result.expr_mismatches e.0 m ∙ h.long column.expr_mismatches) h
 
   pub of_body_diagnostic : (e : ExprId) (d : InferenceDiagnostic) → IsOfBody b (context.with_diagnostic c e d).result
-  of_body_diagnostic e d = assumption (length-noted c.result.expr_diagnostics e.0 d ∙ h.diagnostics, h)
+  of_body_diagnostic e d = long_with b c.result column.expr_diagnostics _ (length-noted c.result.expr_diagnostics e.0 d ∙ h.long column.expr_diagnostics) h
 
   pub of_body_pat_diagnostic : (p : PatId) (d : InferenceDiagnostic) → IsOfBody b (context.with_pat_diagnostic c p d).result
-  of_body_pat_diagnostic p d = assumption (length-noted c.result.pat_diagnostics p.0 d ∙ h.pat_diagnostics, h)
+  of_body_pat_diagnostic p d = long_with b c.result column.pat_diagnostics _ (length-noted c.result.pat_diagnostics p.0 d ∙ h.long column.pat_diagnostics) h
 
   pub of_body_pat_mismatch : (p : PatId) (m : TypeMismatch) → IsOfBody b (context.with_pat_mismatch c p m).result
-  of_body_pat_mismatch p m = assumption (length-noted c.result.pat_mismatches p.0 m ∙ h.pat_mismatches, h)
+  of_body_pat_mismatch p m = long_with b c.result column.pat_mismatches _ (length-noted c.result.pat_mismatches p.0 m ∙ h.long column.pat_mismatches) h
 
   pub of_body_pat_ty : (p : PatId) (t : Ty) → IsOfBody b (context.with_pat_ty c p t).result
-  of_body_pat_ty p t = assumption (length-set c.result.type_of_pat p.0 (Some t) ∙ h.pats, h)
+  of_body_pat_ty p t = long_with b c.result column.type_of_pat _ (length-set c.result.type_of_pat p.0 (Some t) ∙ h.long column.type_of_pat) h
 
   pub of_body_pat_item : (p : PatId) (t : Ty) → IsOfBody b (context.with_pat_item c p t).result
-  of_body_pat_item p t = assumption (length-set c.result.item_of_pat p.0 (Some t) ∙ h.items, h)
+  of_body_pat_item p t = long_with b c.result column.item_of_pat _ (length-set c.result.item_of_pat p.0 (Some t) ∙ h.long column.item_of_pat) h
 
   pub of_body_mode : (p : PatId) (m : BindingMode) → IsOfBody b (context.with_mode c p m).result
-  of_body_mode p m = assumption (length-set c.result.binding_modes p.0 (Some m) ∙ h.modes, h)
+  of_body_mode p m = long_with b c.result column.binding_modes _ (length-set c.result.binding_modes p.0 (Some m) ∙ h.long column.binding_modes) h
 
   pub of_body_binding_ty : (v : BindingId) (t : Ty) → IsOfBody b (context.with_binding_ty c v t).result
-  of_body_binding_ty v t = assumption (length-set c.result.type_of_binding v.0 (Some t) ∙ h.bindings, h)
+  of_body_binding_ty v t = long_with b c.result column.type_of_binding _ (length-set c.result.type_of_binding v.0 (Some t) ∙ h.long column.type_of_binding) h
 
   pub of_body_seen : (x : Seen) → IsOfBody b (context.with_seen c x).result
-  of_body_seen x = assumption h
+  of_body_seen x = long_beside b c.result (context.with_seen c x).result h
 
 pub of_body_bound_by : (b : RawBody) (c : InferenceContext) (p : PatId) (v : BindingId) (t : Ty) → IsOfBody b c.result → IsOfBody b (context.bound_by c p v t).result
 of_body_bound_by b c p v t h =
@@ -296,7 +294,7 @@ set_keeps P (o ∷ xs) (suc n) x all h (suc m) y k = set_keeps P xs n x (λ i z 
 put_keeps : {A : Type 0} (P : A → Type 0) (xs : List (Option A)) (n : ℕ) (x : A) → ((m : ℕ) (y : A) → At xs m y → P y) → P x → (m : ℕ) (y : A) → At (found.put xs n x) m y → P y
 put_keeps P xs n x all h m y k = elim (put-cases xs n m x y k) [ inl q ↦ all m y q | inr q ↦ subst P q.1 h ]
 
-noted_keeps : (P : TypeMismatch → Type 0) (xs : List (Option TypeMismatch)) (n : ℕ) (x : TypeMismatch) → ((m : ℕ) (y : TypeMismatch) → At xs m y → P y) → P x → (m : ℕ) (y : TypeMismatch) → At (found.noted xs n x) m y → P y
+noted_keeps : {A : Type 0} (P : A → Type 0) (xs : List (Option A)) (n : ℕ) (x : A) → ((m : ℕ) (y : A) → At xs m y → P y) → P x → (m : ℕ) (y : A) → At (found.noted xs n x) m y → P y
 noted_keeps P xs n x all h m y k = elim (noted-cases xs n m x y k) [ inl q ↦ all m y q | inr q ↦ subst P q.1 h ]
 
 -- what stands in a list with one more
@@ -312,88 +310,72 @@ sound_with {sc} c r n s h k =
     let some : (a : Assignment) × Closes a (record c { result = r; clock = n }) = (s.some.0, closes_same s.some.0 c (record c { result = r; clock = n }) refl s.some.1) in
     assumption (h, k, some, s)
 
+-- what a complaint is about has a property
+about : (P : Ty → Type 0) (d : InferenceDiagnostic) → ((n : ExprId) (t : Ty) → d ≡ diagnostic.ExpectedFunction n t → P t) → AllInDiagnostic P d
+about P (diagnostic.MismatchedArgCount n expected found) h = tt
+about P (diagnostic.MismatchedTupleStructPatArgCount n expected found) h = tt
+about P (diagnostic.ExpectedFunction n t) h = h n t refl
+
 module _ {sc : Scope} (c : InferenceContext) (s : IsSound sc c) where
+  abbrev Fine : Ty → Type 0
+  Fine = IsFine sc c.goals.table
+
   pub sound_entered : IsSound sc (context.entered c)
   sound_entered = sound_with c c.result (context.entered c).clock s s.fine s.seen
 
-  pub sound_expr_ty : (e : ExprId) (t : Ty) → IsFine sc c.goals.table t → IsSound sc (context.with_expr_ty c e t)
-  sound_expr_ty e t h = sound_with c (context.with_expr_ty c e t).result c.clock s (assumption (
-    set_keeps (IsFine sc c.goals.table) c.result.type_of_expr e.0 t s.fine.exprs h,
-    s.fine,
-  )) (assumption s.seen)
+  pub sound_expr_ty : (e : ExprId) (t : Ty) → Fine t → IsSound sc (context.with_expr_ty c e t)
+  sound_expr_ty e t h = sound_with c (context.with_expr_ty c e t).result c.clock s
+      (types_with Fine c.result column.type_of_expr _ (set_keeps Fine c.result.type_of_expr e.0 t (s.fine.each column.type_of_expr) h) s.fine)
+      (assumption s.seen)
 
-  pub sound_mismatch : (e : ExprId) (m : TypeMismatch) → IsFine sc c.goals.table m.expected → IsFine sc c.goals.table m.actual → IsSound sc (context.with_mismatch c e m)
-  sound_mismatch e m h k = sound_with c (context.with_mismatch c e m).result c.clock s (assumption (
-    noted_keeps (λ x. IsFine sc c.goals.table x.expected) c.result.expr_mismatches e.0 m s.fine.expected h,
-    noted_keeps (λ x. IsFine sc c.goals.table x.actual) c.result.expr_mismatches e.0 m s.fine.actual k,
-    s.fine,
-  )) (assumption s.seen)
+  pub sound_mismatch : (e : ExprId) (m : TypeMismatch) → Fine m.expected → Fine m.actual → IsSound sc (context.with_mismatch c e m)
+  sound_mismatch e m h k = sound_with c (context.with_mismatch c e m).result c.clock s
+      (types_with Fine c.result column.expr_mismatches _ (noted_keeps (λ x. Fine x.expected × Fine x.actual) c.result.expr_mismatches e.0 m (s.fine.each column.expr_mismatches) (h, k)) s.fine)
+      (assumption s.seen)
 
-  pub sound_diagnostic : (e : ExprId) (d : InferenceDiagnostic) → ((n : ExprId) (t : Ty) → d ≡ diagnostic.ExpectedFunction n t → IsFine sc c.goals.table t) → IsSound sc (context.with_diagnostic c e d)
-  sound_diagnostic e d fine = sound_with c (context.with_diagnostic c e d).result c.clock s (record {
-    exprs = s.fine.exprs;
-    pats = s.fine.pats;
-    bindings = s.fine.bindings;
-    placeholders = s.fine.placeholders;
-    items = s.fine.items;
-    expected = s.fine.expected;
-    actual = s.fine.actual;
-    pat_expected = s.fine.pat_expected;
-    pat_actual = s.fine.pat_actual;
-    found = λ n k t i. elim (noted-cases c.result.expr_diagnostics e.0 n d (diagnostic.ExpectedFunction k t) i) [ inl q ↦ s.fine.found n k t q | inr q ↦ fine k t q.1 ];
-  }) (assumption s.seen)
+  pub sound_diagnostic : (e : ExprId) (d : InferenceDiagnostic) → ((n : ExprId) (t : Ty) → d ≡ diagnostic.ExpectedFunction n t → Fine t) → IsSound sc (context.with_diagnostic c e d)
+  sound_diagnostic e d fine = sound_with c (context.with_diagnostic c e d).result c.clock s
+      (types_with Fine c.result column.expr_diagnostics _ (noted_keeps (AllInDiagnostic Fine) c.result.expr_diagnostics e.0 d (s.fine.each column.expr_diagnostics) (about Fine d fine)) s.fine)
+      (assumption s.seen)
 
   pub sound_pat_diagnostic : (p : PatId) (d : InferenceDiagnostic) → IsSound sc (context.with_pat_diagnostic c p d)
-  sound_pat_diagnostic p d = sound_with c (context.with_pat_diagnostic c p d).result c.clock s (assumption s.fine) (assumption s.seen)
+  sound_pat_diagnostic p d = sound_with c (context.with_pat_diagnostic c p d).result c.clock s
+      (types_with Fine c.result column.pat_diagnostics _ (λ n x at. tt) s.fine)
+      (assumption s.seen)
 
-  pub sound_pat_mismatch : (p : PatId) (m : TypeMismatch) → IsFine sc c.goals.table m.expected → IsFine sc c.goals.table m.actual → IsSound sc (context.with_pat_mismatch c p m)
-  sound_pat_mismatch p m h k = sound_with c (context.with_pat_mismatch c p m).result c.clock s (assumption (
-    noted_keeps (λ x. IsFine sc c.goals.table x.expected) c.result.pat_mismatches p.0 m s.fine.pat_expected h,
-    noted_keeps (λ x. IsFine sc c.goals.table x.actual) c.result.pat_mismatches p.0 m s.fine.pat_actual k,
-    s.fine,
-  )) (assumption s.seen)
+  pub sound_pat_mismatch : (p : PatId) (m : TypeMismatch) → Fine m.expected → Fine m.actual → IsSound sc (context.with_pat_mismatch c p m)
+  sound_pat_mismatch p m h k = sound_with c (context.with_pat_mismatch c p m).result c.clock s
+      (types_with Fine c.result column.pat_mismatches _ (noted_keeps (λ x. Fine x.expected × Fine x.actual) c.result.pat_mismatches p.0 m (s.fine.each column.pat_mismatches) (h, k)) s.fine)
+      (assumption s.seen)
 
-  pub sound_pat_ty : (p : PatId) (t : Ty) → IsFine sc c.goals.table t → IsSound sc (context.with_pat_ty c p t)
-  sound_pat_ty p t h = sound_with c (context.with_pat_ty c p t).result c.clock s (assumption (
-    set_keeps (IsFine sc c.goals.table) c.result.type_of_pat p.0 t s.fine.pats h,
-    s.fine,
-  )) (assumption s.seen)
+  pub sound_pat_ty : (p : PatId) (t : Ty) → Fine t → IsSound sc (context.with_pat_ty c p t)
+  sound_pat_ty p t h = sound_with c (context.with_pat_ty c p t).result c.clock s
+      (types_with Fine c.result column.type_of_pat _ (set_keeps Fine c.result.type_of_pat p.0 t (s.fine.each column.type_of_pat) h) s.fine)
+      (assumption s.seen)
 
-  pub sound_pat_item : (p : PatId) (t : Ty) → IsFine sc c.goals.table t → IsSound sc (context.with_pat_item c p t)
-  sound_pat_item p t h = sound_with c (context.with_pat_item c p t).result c.clock s (assumption (
-    set_keeps (IsFine sc c.goals.table) c.result.item_of_pat p.0 t s.fine.items h,
-    s.fine,
-  )) (assumption s.seen)
+  pub sound_pat_item : (p : PatId) (t : Ty) → Fine t → IsSound sc (context.with_pat_item c p t)
+  sound_pat_item p t h = sound_with c (context.with_pat_item c p t).result c.clock s
+      (types_with Fine c.result column.item_of_pat _ (set_keeps Fine c.result.item_of_pat p.0 t (s.fine.each column.item_of_pat) h) s.fine)
+      (assumption s.seen)
 
   pub sound_mode : (p : PatId) (m : BindingMode) → IsSound sc (context.with_mode c p m)
-  sound_mode p m = sound_with c (context.with_mode c p m).result c.clock s (assumption s.fine) (assumption s.seen)
+  sound_mode p m = sound_with c (context.with_mode c p m).result c.clock s
+      (types_with Fine c.result column.binding_modes _ (λ n x at. tt) s.fine)
+      (assumption s.seen)
 
-  pub sound_binding_ty : (v : BindingId) (t : Ty) → IsFine sc c.goals.table t → IsSound sc (context.with_binding_ty c v t)
-  sound_binding_ty v t h = sound_with c (context.with_binding_ty c v t).result c.clock s (assumption (
-    set_keeps (IsFine sc c.goals.table) c.result.type_of_binding v.0 t s.fine.bindings h,
-    s.fine,
-  )) (assumption s.seen)
+  pub sound_binding_ty : (v : BindingId) (t : Ty) → Fine t → IsSound sc (context.with_binding_ty c v t)
+  sound_binding_ty v t h = sound_with c (context.with_binding_ty c v t).result c.clock s
+      (types_with Fine c.result column.type_of_binding _ (set_keeps Fine c.result.type_of_binding v.0 t (s.fine.each column.type_of_binding) h) s.fine)
+      (assumption s.seen)
 
-  pub sound_placeholder : (k : ℕ) (t : Ty) → IsFine sc c.goals.table t → IsSound sc (context.with_placeholder_ty c k t)
-  sound_placeholder k t h = sound_with c (context.with_placeholder_ty c k t).result c.clock s (assumption (
-    put_keeps (IsFine sc c.goals.table) c.result.type_of_placeholder k t s.fine.placeholders h,
-    s.fine,
-  )) (assumption s.seen)
+  pub sound_placeholder : (k : ℕ) (t : Ty) → Fine t → IsSound sc (context.with_placeholder_ty c k t)
+  sound_placeholder k t h = sound_with c (context.with_placeholder_ty c k t).result c.clock s
+      (types_with Fine c.result column.type_of_placeholder _ (put_keeps Fine c.result.type_of_placeholder k t (s.fine.each column.type_of_placeholder) h) s.fine)
+      (assumption s.seen)
 
-  pub sound_seen : (x : Seen) → IsFine sc c.goals.table x.ty → x.other ≡ None → IsSound sc (context.with_seen c x)
-  sound_seen x h alone = sound_with c (context.with_seen c x).result c.clock s (record {
-    exprs = s.fine.exprs;
-    pats = s.fine.pats;
-    bindings = s.fine.bindings;
-    placeholders = s.fine.placeholders;
-    items = s.fine.items;
-    expected = s.fine.expected;
-    actual = s.fine.actual;
-    pat_expected = s.fine.pat_expected;
-    pat_actual = s.fine.pat_actual;
-    found = s.fine.found;
-  }) (record {
-    types = λ i y at. elim (push_cases c.result.seen x i y at) [ inl q ↦ s.seen.types i y q | inr q ↦ subst (λ (z : Seen). IsFine sc c.goals.table z.ty) q h ];
+  pub sound_seen : (x : Seen) → Fine x.ty → x.other ≡ None → IsSound sc (context.with_seen c x)
+  sound_seen x h alone = sound_with c (context.with_seen c x).result c.clock s (types_beside Fine c.result (context.with_seen c x).result s.fine) (record {
+    types = λ i y at. elim (push_cases c.result.seen x i y at) [ inl q ↦ s.seen.types i y q | inr q ↦ subst (λ (z : Seen). Fine z.ty) q h ];
     others = λ i y t at is. elim (push_cases c.result.seen x i y at) [ inl q ↦ s.seen.others i y t q is | inr q ↦ absurd (let none : y.other ≡ None = subst (λ (z : Seen). z.other ≡ None) q alone in cc) ];
   })
 

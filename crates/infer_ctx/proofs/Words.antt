@@ -12,5 +12,6 @@ pub use Rattle.infer_goals.proofs.Words.{mapped_get}
 pub use Rattle.infer_goals.proofs.Counting.{asked_counted, none_counted, went_counted}
 pub use Rattle.infer_goals.proofs.Lists.{append_get}
 pub use Rattle.infer_goals.proofs.Steps.{went_grew}
+pub use Rattle.infer_result.proofs.Columns.{columns_are, each_with, entries_all_under, entries_long, every_type, long_beside, long_with, types_beside, types_with, with_column}
 pub use Rattle.infer_result.proofs.DerivationLaws.{derivation_of}
 pub use Rattle.infer_result.proofs.Derived.{ctor_type_of_tuple, ctor_type_of_unit, typed_by_schedule}

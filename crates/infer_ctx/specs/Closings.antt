@@ -1,12 +1,13 @@
 -- What a context comes to under an assignment of closed types to its holes.
 use Rattle.std.specs.Prelude.{◌≡◌, ℕ, List, map, Option, option_map, Bool, true, false, Some, None, [], ◌∷◌, slice_get, ◌⊎◌}
-use Rattle.infer_ctx.specs.Words.{IntegerTy, Assignment, folded, integer_type, terms_of, Ty, IsCarriedType, Scope, Meets, State, bindings, WaitingPair, waiting, BindsOnly, TypeMismatch, mismatch, At, InferenceResult, AllTypes, AllSeen}
+use Rattle.infer_ctx.specs.Words.{IntegerTy, Assignment, folded, integer_type, terms_of, Ty, IsCarriedType, Scope, Meets, State, bindings, WaitingPair, waiting, BindsOnly, TypeMismatch, mismatch, At, InferenceResult, AllTypes, AllSeen, Column, Entries, column_under, with_columns}
 use Rattle.hir_types.specs.contracts.ty.TyPartialEq.TheImpl as same
 use Rattle.infer_ctx.specs.Words.infer_table.Solutions.{log_of}
 use Rattle.infer_ctx.specs.declared.context.InferenceContext.{InferenceContext}
 use Rattle.infer_ctx.specs.Said.{said}
 use Rattle.infer_ctx.specs.Found.{Found}
 use Rattle.infer_ctx.specs.Fine.{is_fine_head, IsFine, IsFineAsked, AreFinePairs}
+use Rattle.infer_result.specs.Columns as column
 
 -- closed types of the carried kinds stand for holes, integer types for holes of integer types
 pub record IsClosing (a : Assignment) : Type 0 where
@@ -56,27 +57,15 @@ abbrev pub closed_mismatches : Assignment → List (Option TypeMismatch) → Lis
 closed_mismatches a asked [] = []
 closed_mismatches a asked (x ∷ xs) = asked_or_noted a (first_asked asked) x ∷ closed_mismatches a (others_asked asked) xs
 
+-- Each column under the assignment, but that what is asked is beside the mismatches at expressions, and what is said of look-ups that
+-- failed beside the other complaints there.
+abbrev pub closed_column : Assignment → List (Option TypeMismatch) → InferenceResult → (c : Column) → Entries c
+closed_column a asked r column.expr_mismatches = closed_mismatches a asked r.expr_mismatches
+closed_column a asked r column.expr_diagnostics = said a r.seen r.expr_diagnostics
+closed_column a asked r c = column_under a r c
+
 abbrev pub closed_table : Assignment → List (Option TypeMismatch) → InferenceResult → InferenceResult
-closed_table a asked r = record {
-  type_of_expr = closed_types a r.type_of_expr;
-  type_of_pat = closed_types a r.type_of_pat;
-  type_of_binding = closed_types a r.type_of_binding;
-  item_of_pat = closed_types a r.item_of_pat;
-  type_of_placeholder = closed_types a r.type_of_placeholder;
-  binding_modes = r.binding_modes;
-  expr_mismatches = closed_mismatches a asked r.expr_mismatches;
-  expr_diagnostics = said a r.seen r.expr_diagnostics;
-  pat_mismatches = map (option_map (closed_mismatch a)) r.pat_mismatches;
-  pat_diagnostics = r.pat_diagnostics;
-  expr_variants = r.expr_variants;
-  pat_variants = r.pat_variants;
-  seen = r.seen;
-  proofs = r.proofs;
-  projections = r.projections;
-  expr_gaps = r.expr_gaps;
-  pat_gaps = r.pat_gaps;
-  general = r.general;
-}
+closed_table a asked r = with_columns r (closed_column a asked r)
 
 abbrev pub found_under : Assignment → InferenceContext → Found
 found_under a c = record { result = closed_table a c.asked c.result; clock = c.clock; holes = a }

@@ -1,9 +1,10 @@
 -- What every function of the walk does to what is found out, under one assignment of types to holes.
 use Rattle.std.specs.Prelude.{ℕ, ◌≡◌, List, slice_get, Option, Some, None, ◌⊎◌, ◌<◌, ◌≤◌, length}
-use Rattle.infer_ctx.specs.Words.{ExprId, PatId, BindingId, VariantId, Ty, folded, Schedule, RawBody, start, inner, end, Binds, IsCarriedType, InferenceResult, TypeMismatch, BindingMode, InferenceDiagnostic, At, HasTy, PatTy, PatItem, BindingTy, PlaceholderTy, HasMode, ExprVariant, PatVariant, WasSeen, AllTypes, IsOfBody, OnlyBindersHaveModes, OnlyCtorPatsHaveItems, Seen, Given, OnlyPlaceholdersHaveTypes, Demand, IsTrueSeen, IsSaid, IsTrueDiagnostic, IsTruePatDiagnostic, ObeysOrMismatch, PatRule, IsTruePatMismatch, IsMisfit}
+use Rattle.infer_ctx.specs.Words.{ExprId, PatId, BindingId, Ty, folded, Schedule, RawBody, start, inner, end, Binds, IsCarriedType, InferenceResult, TypeMismatch, InferenceDiagnostic, Column, Entries, Entry, col, IsIn, At, HasTy, BindingTy, WasSeen, AllTypes, IsOfBody, OnlyBindersHaveModes, OnlyCtorPatsHaveItems, Seen, Given, OnlyPlaceholdersHaveTypes, Demand, IsTrueSeen, IsSaid, IsTrueDiagnostic, IsTruePatDiagnostic, ObeysOrMismatch, PatRule, IsTruePatMismatch, IsMisfit}
 use Rattle.hir_types.specs.declared.ids.ExprOrPatId.TheVariants as node
 use Rattle.infer_ctx.specs.Words.hir_raw.declared.raw.RawExpr.TheVariants as expr
 use Rattle.infer_ctx.specs.Found.{Found, RecordsVariants}
+use Rattle.infer_result.specs.Columns as column
 
 -- the numbers of an expression and of a pattern in the order of the walk
 abbrev pub expr_start : RawBody → Schedule → ExprId → ℕ
@@ -22,21 +23,16 @@ pat_end b s p = end b s (inner (node.PatId p))
 abbrev pub IsFree : {A : Type 0} → List (Option A) → ℕ → Type 0
 IsFree xs n = slice_get xs n ≡ Some None
 
+-- this entry stays in the column; of complaints at expressions something else is said
+abbrev pub StaysIn : (c : Column) → Entries c → ℕ → Entry c → Type 0
+StaysIn column.expr_diagnostics xs n x = Unit {0}
+StaysIn c xs n x = At xs n x
+
 -- what was recorded stays; another complaint may give way where a look-up failed
 pub record Extends (old new : InferenceResult) : Type 0 where
-  pub exprs : (e : ExprId) (t : Ty) → HasTy old e t → HasTy new e t
-  pub pats : (p : PatId) (t : Ty) → PatTy old p t → PatTy new p t
-  pub bindings : (v : BindingId) (t : Ty) → BindingTy old v t → BindingTy new v t
-  pub modes : (p : PatId) (m : BindingMode) → HasMode old p m → HasMode new p m
-  pub mismatches : (e : ExprId) (m : TypeMismatch) → At old.expr_mismatches e.0 m → At new.expr_mismatches e.0 m
-  pub pat_mismatches : (p : PatId) (m : TypeMismatch) → At old.pat_mismatches p.0 m → At new.pat_mismatches p.0 m
-  pub placeholders : (k : ℕ) (t : Ty) → PlaceholderTy old k t → PlaceholderTy new k t
-  pub items : (p : PatId) (t : Ty) → PatItem old p t → PatItem new p t
+  pub columns : (c : Column) (n : ℕ) (x : Entry c) → IsIn old c n x → StaysIn c (col new c) n x
   pub diagnostics : (e : ExprId) (d : InferenceDiagnostic) → At old.expr_diagnostics e.0 d → At new.expr_diagnostics e.0 d ⊎ WasSeen new e
   pub seen : (e : ExprId) → WasSeen old e → WasSeen new e
-  pub pat_diagnostics : (p : PatId) (d : InferenceDiagnostic) → At old.pat_diagnostics p.0 d → At new.pat_diagnostics p.0 d
-  pub expr_variants : (e : ExprId) (v : VariantId) → ExprVariant old e v → ExprVariant new e v
-  pub pat_variants : (p : PatId) (v : VariantId) → PatVariant old p v → PatVariant new p v
 
 -- each type of the table is of a carried kind
 abbrev pub IsCarriedTable : InferenceResult → Type 0

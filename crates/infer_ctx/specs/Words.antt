@@ -41,7 +41,7 @@ pub use Rattle.infer_goals.specs.Words.{IsAsked, asked_by, opens, registered, Ob
 pub use Rattle.infer_goals.specs.Own.{all_grows, kept_grows, AreCounted, AreKept, AreSteps, HasAllOpen, IsStep, NoneLeft, Went, sourced, IsUnused, StaysButHoles, all_still, kept_still, stays_itself, stays_twice, stays_with}
 pub use Rattle.infer_goals.specs.declared.obligations.Obligations.{Obligations}
 pub use Rattle.infer_goals.specs.declared.table.GoalTable.{GoalTable}
-pub use Rattle.infer_result.specs.Own.{alias_goals, alias_goals_by, alias_goals_from, fn_alias_goals, path_alias_goals, variant_alias_goals, AllSeen, AllTypes, IsBinder, IsClosedTable, IsItemOfPat, IsOfBody, IsVariantPat, NamesVariant, OnlyBindersHaveModes, OnlyCtorPatsHaveItems, OnlyNamedVariants, Asks, AsksOf, Demand, HasNoComplaint, IsDerivation, AreGeneralTypes, GivesPlain, HasGeneral, IsGeneralOf, IsGeneralType, closed_by, general_adt, general_bool, general_char, general_hole, general_integer, general_integer_hole, general_item, general_param, general_tuple, types_under, HasHead, HeadOf, Outermost, filled_head, of_ctor, of_function, of_output, of_tuple, of_up, other, outermost_step, tuple, GivesPart, Incoming, IsInput, AsksOfAlternative, IsBefore, LetRule, StmtRule, StmtsRule, TailRule, ArgsRule, CallsItem, CallsNonGeneric, IsCallee, IsInputAt, IsPathToItem, IsSaid, callable_step, is_callable, IsCtorAt, IsCtorPath, IsVariantAt, adt_at, fields_at, ElseRule, IfRule, branches_of, IsLiteralType, IsOwnType, ArmPatterns, ArmsRule, GuardRule, MatchRule, arm_exprs, NamesLet, NamesParameter, NamesUnit, PathRule, AllAt, IsMade, IsMisfit, GoalsHold, HasGap, HasNoneLeft, NeedsHold, callee_needs, expr_preds, item_args, needed_goals, needs_at, needs_of, needs_preds, pat_needs_at, pat_needs_of, path_preds, scope_item, variant_preds, with_goals, AreLetTypes, AreOwnTypes, CanStand, EachIsKnownAs, HoldsPlaceholder, IsAliasKnownAs, IsInHand, IsKnownAs, aliases_of, fn_aliases_by, is_read_head, written_inputs, IsItemOf, IsPatOf, PatsAtFields, AllPatsAt, AreRecorded, Given, IsAsKnown, IsAt, IsAtMaybeOrMismatch, IsAtOrMismatch, IsPlaceholder, MisfitsAs, OnlyPlaceholdersHaveTypes, PatIsAtOrMismatch, StandsAt, declared, hole_type, let_types, at_or_mismatch, at_types, complaint_count, report, ObeysExpression, ObeysOrMismatch, PatRule, AnyMismatch, At, BindingTy, ExprVariant, HasDiagnostic, HasMismatch, HasMode, HasPatDiagnostic, HasPatMismatch, HasTy, MismatchAt, PatItem, PatTy, PatVariant, PlaceholderTy, WasSeen, mismatch, recorded, IsTrueDiagnostic, IsTruePatDiagnostic, IsTruePatMismatch, SaysItsType, IsTrueSeen, IsTableOf, given, given_by, SeenFit, TypesFit, arg_has_unknown, has_unknown, arg_has_unknown_type, has_unknown_adt, has_unknown_associated, has_unknown_bool, has_unknown_char, has_unknown_fn_def, has_unknown_int, has_unknown_int_var, has_unknown_param, has_unknown_tuple, has_unknown_uint, has_unknown_var, Up, of_call, of_initializer, of_literal, of_parameter, of_unit, of_written, AllWrittenAreListed}
+pub use Rattle.infer_result.specs.Own.{alias_goals, alias_goals_by, alias_goals_from, fn_alias_goals, path_alias_goals, variant_alias_goals, AllSeen, AllTypes, IsBinder, IsClosedTable, IsItemOfPat, IsOfBody, IsVariantPat, NamesVariant, OnlyBindersHaveModes, OnlyCtorPatsHaveItems, OnlyNamedVariants, Asks, AsksOf, Demand, HasNoComplaint, IsDerivation, AreGeneralTypes, GivesPlain, HasGeneral, IsGeneralOf, IsGeneralType, closed_by, general_adt, general_bool, general_char, general_hole, general_integer, general_integer_hole, general_item, general_param, general_tuple, types_under, HasHead, HeadOf, Outermost, filled_head, of_ctor, of_function, of_output, of_tuple, of_up, other, outermost_step, tuple, GivesPart, Incoming, IsInput, AsksOfAlternative, IsBefore, LetRule, StmtRule, StmtsRule, TailRule, ArgsRule, CallsItem, CallsNonGeneric, IsCallee, IsInputAt, IsPathToItem, IsSaid, callable_step, is_callable, IsCtorAt, IsCtorPath, IsVariantAt, adt_at, fields_at, ElseRule, IfRule, branches_of, IsLiteralType, IsOwnType, ArmPatterns, ArmsRule, GuardRule, MatchRule, arm_exprs, NamesLet, NamesParameter, NamesUnit, PathRule, AllAt, IsMade, IsMisfit, GoalsHold, HasGap, HasNoneLeft, NeedsHold, callee_needs, expr_preds, item_args, needed_goals, needs_at, needs_of, needs_preds, pat_needs_at, pat_needs_of, path_preds, scope_item, variant_preds, with_goals, AreLetTypes, AreOwnTypes, CanStand, EachIsKnownAs, HoldsPlaceholder, IsAliasKnownAs, IsInHand, IsKnownAs, aliases_of, fn_aliases_by, is_read_head, written_inputs, IsItemOf, IsPatOf, PatsAtFields, AllPatsAt, AreRecorded, Given, IsAsKnown, IsAt, IsAtMaybeOrMismatch, IsAtOrMismatch, IsPlaceholder, MisfitsAs, OnlyPlaceholdersHaveTypes, PatIsAtOrMismatch, StandsAt, declared, hole_type, let_types, at_or_mismatch, at_types, complaint_count, report, ObeysExpression, ObeysOrMismatch, PatRule, AnyMismatch, At, BindingTy, ExprVariant, HasDiagnostic, HasMismatch, HasMode, HasPatDiagnostic, HasPatMismatch, HasTy, MismatchAt, PatItem, PatTy, PatVariant, PlaceholderTy, WasSeen, mismatch, recorded, IsTrueDiagnostic, IsTruePatDiagnostic, IsTruePatMismatch, SaysItsType, IsTrueSeen, IsTableOf, given, given_by, SeenFit, TypesFit, arg_has_unknown, has_unknown, arg_has_unknown_type, has_unknown_adt, has_unknown_associated, has_unknown_bool, has_unknown_char, has_unknown_fn_def, has_unknown_int, has_unknown_int_var, has_unknown_param, has_unknown_tuple, has_unknown_uint, has_unknown_var, Up, of_call, of_initializer, of_literal, of_parameter, of_unit, of_written, AllWrittenAreListed, AllIn, AllInDiagnostic, AreComplaints, Column, Entries, Entry, EntryKind, EntryOf, IsIn, IsLong, col, column_under, entries_under, entry_kind, entry_under, index, no_entries, table_of, with_columns}
 pub use Rattle.infer_result.specs.declared.diagnostics.InferenceDiagnostic.{InferenceDiagnostic}
 pub use Rattle.infer_result.specs.declared.gaps.Gap.{Gap}
 pub use Rattle.infer_result.specs.declared.modes.BindingMode.{BindingMode}

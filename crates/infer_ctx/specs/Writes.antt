@@ -1,9 +1,10 @@
 -- What is recorded in a table, write by write.
-use Rattle.std.specs.Prelude.{ℕ, zero, suc, List, [], ◌∷◌, length, map, replicate, slice_get, slice_set, Option, Some, None}
-use Rattle.infer_ctx.specs.Words.{ExprId, PatId, BindingId, VariantId, Ty, RawPath, RawExpr, RawPat, RawBody, BindingMode, InferenceResult, TypeMismatch, InferenceDiagnostic}
+use Rattle.std.specs.Prelude.{ℕ, zero, suc, List, [], ◌∷◌, map, slice_get, slice_set, Option, Some, None}
+use Rattle.infer_ctx.specs.Words.{ExprId, PatId, BindingId, VariantId, Ty, RawPath, RawExpr, RawPat, RawBody, BindingMode, InferenceResult, TypeMismatch, InferenceDiagnostic, Column, Entries, no_entries, table_of}
 use Rattle.infer_ctx.specs.Words.hir_raw.declared.raw.RawPath.TheVariants as path
 use Rattle.infer_ctx.specs.Words.hir_raw.declared.raw.RawExpr.TheVariants as expr
 use Rattle.infer_ctx.specs.Words.hir_raw.declared.raw.RawPat.TheVariants as pat
+use Rattle.infer_result.specs.Columns as column
 
 -- the variant whose constructor is named
 abbrev pub path_variant : RawPath → Option VariantId
@@ -36,27 +37,13 @@ put (o ∷ xs) zero x = Some x ∷ xs
 put (o ∷ xs) (suc n) x = o ∷ put xs n x
 
 -- nothing is recorded yet, but what constructors are named
+abbrev pub first_entries : RawBody → (c : Column) → Entries c
+first_entries b column.expr_variants = map expr_variant b.exprs
+first_entries b column.pat_variants = map pat_variant b.pats
+first_entries b c = no_entries b c
+
 abbrev pub nothing : RawBody → InferenceResult
-nothing b = record {
-  type_of_expr = replicate (length b.exprs) None;
-  type_of_pat = replicate (length b.pats) None;
-  type_of_binding = replicate (length b.bindings) None;
-  item_of_pat = replicate (length b.pats) None;
-  type_of_placeholder = [];
-  binding_modes = replicate (length b.pats) None;
-  expr_mismatches = replicate (length b.exprs) None;
-  expr_diagnostics = replicate (length b.exprs) None;
-  pat_mismatches = replicate (length b.pats) None;
-  pat_diagnostics = replicate (length b.pats) None;
-  expr_variants = map expr_variant b.exprs;
-  pat_variants = map pat_variant b.pats;
-  seen = [];
-  proofs = [];
-  projections = [];
-  expr_gaps = [];
-  pat_gaps = [];
-  general = None;
-}
+nothing b = table_of (first_entries b)
 
 abbrev pub expr_ty : InferenceResult → ExprId → Ty → InferenceResult
 expr_ty r e t = record r { type_of_expr = slice_set r.type_of_expr e.0 (Some t) }

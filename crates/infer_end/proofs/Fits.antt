@@ -7,9 +7,12 @@ use Rattle.hir_types.specs.declared.ty.Ty.TheVariants as ty
 use Rattle.hir_types.specs.declared.head.Hole.TheVariants as hole_of
 use Rattle.hir_types.specs.declared.ty.IntTy.TheVariants as int
 use Rattle.infer_end.specs.Words.infer_result.declared.diagnostics.InferenceDiagnostic.TheVariants as diagnostic
-use Rattle.infer_end.proofs.Words.{signature_count, over_fine, adt_closed, fn_def_closed, associated_closed, At-unclosed, At-stems, said-cases, bound_heads}
+use Rattle.infer_end.proofs.Words.{signature_count, over_fine, adt_closed, fn_def_closed, associated_closed, entries_all_under, At-stems, said-cases, bound_heads}
 use Rattle.infer_end.proofs.SizedTypes.{heads_are_read}
 use Rattle.std.specs.Cmp.{second_so}
+use Rattle.infer_end.specs.Words.infer_result.Columns.{Column, Entry, entry_kind, col, IsIn, AllIn, AllInDiagnostic}
+use Rattle.infer_end.specs.Words.infer_result.Columns as column
+use Rattle.infer_end.specs.Words.infer_result.declared.diagnostics.InferenceDiagnostic.{InferenceDiagnostic}
 
 both_true : (a b : Bool) → a ≡ true → b ≡ true → (a && b) ≡ true
 both_true a b h k = ap (λ (x : Bool). x && b) h ∙ k
@@ -89,28 +92,29 @@ fallback_read (hole_of.Const n) = (tt, tt)
 
 -- what holds of fine types, and of them under an assignment, holds of each type of the table that it closes
 module _ (sc : Scope) (c : InferenceContext) (s : IsSound sc c) (a : Assignment) (P : Ty → Type 0) (as_is : (t : Ty) → HasFineHeads sc t → P t) (under : (t : Ty) → IsFine sc c.goals.table t → P (folded a t)) where
-  of_under : (t u : Ty) → folded a t ≡ u → IsFine sc c.goals.table t → P u
-  of_under t u e h = subst P e (under t h)
+  abbrev Fine : Ty → Type 0
+  Fine = IsFine sc c.goals.table
+
+  both_under : (m x : TypeMismatch) → closed_mismatch a m ≡ x → Fine m.expected × Fine m.actual → P x.expected × P x.actual
+  both_under m x e h = subst (λ (y : TypeMismatch). P y.expected × P y.actual) e (under m.expected h.0, under m.actual h.1)
+
+  about_as_is : (d : InferenceDiagnostic) → AllInDiagnostic Fine d → AllInDiagnostic P d
+  about_as_is (diagnostic.MismatchedArgCount n expected actual) h = h
+  about_as_is (diagnostic.MismatchedTupleStructPatArgCount n expected actual) h = h
+  about_as_is (diagnostic.ExpectedFunction n t) h = as_is t h.heads
+
+  each_in : (k : Column) (n : ℕ) (x : Entry k) → IsIn (closed_table a c.asked c.result) k n x → AllIn P (entry_kind k) x
+  each_in column.expr_mismatches n x i =
+      (let q = At-stems a c.asked c.result.expr_mismatches n x i in
+      both_under q.0 x q.2 (elim q.1 [ inl z ↦ s.asked n q.0 z | inr z ↦ s.fine.each column.expr_mismatches n q.0 z ]))
+  each_in column.expr_diagnostics n x i = elim (said-cases a c.result.seen c.result.expr_diagnostics n x i) [
+    | inl q ↦ about_as_is x (s.fine.each column.expr_diagnostics n x q)
+    | inr q ↦ subst (AllInDiagnostic P) (sym q.3.is) (under q.1.ty (s.seen.types q.0 q.1 q.2))
+  ]
+  each_in k n x i = entries_all_under Fine P a under (entry_kind k) (col c.result k) (s.fine.each k) n x i
 
   pub each_type : AllTypes P (closed_table a c.asked c.result)
-  each_type =
-      let f : Ty → Ty = folded a in
-      let m : TypeMismatch → TypeMismatch = closed_mismatch a in
-      record {
-        exprs = λ n t i. (let q = At-unclosed f c.result.type_of_expr n t i in of_under q.0 t q.2 (s.fine.exprs n q.0 q.1));
-        pats = λ n t i. (let q = At-unclosed f c.result.type_of_pat n t i in of_under q.0 t q.2 (s.fine.pats n q.0 q.1));
-        bindings = λ n t i. (let q = At-unclosed f c.result.type_of_binding n t i in of_under q.0 t q.2 (s.fine.bindings n q.0 q.1));
-        placeholders = λ n t i. (let q = At-unclosed f c.result.type_of_placeholder n t i in of_under q.0 t q.2 (s.fine.placeholders n q.0 q.1));
-        items = λ n t i. (let q = At-unclosed f c.result.item_of_pat n t i in of_under q.0 t q.2 (s.fine.items n q.0 q.1));
-        found = λ n k t i. elim (said-cases a c.result.seen c.result.expr_diagnostics n (diagnostic.ExpectedFunction k t) i) [
-          | inl q ↦ as_is t (s.fine.found n k t q).heads
-          | inr q ↦ of_under q.1.ty t (let same : diagnostic.ExpectedFunction k t ≡ diagnostic.ExpectedFunction q.3.call (f q.1.ty) = q.3.is in cc) (s.seen.types q.0 q.1 q.2)
-        ];
-        expected = λ n x i. (let q = At-stems a c.asked c.result.expr_mismatches n x i in of_under q.0.expected x.expected (ap (λ (y : TypeMismatch). y.expected) q.2) (elim q.1 [ inl z ↦ (s.asked n q.0 z).0 | inr z ↦ s.fine.expected n q.0 z ]));
-        actual = λ n x i. (let q = At-stems a c.asked c.result.expr_mismatches n x i in of_under q.0.actual x.actual (ap (λ (y : TypeMismatch). y.actual) q.2) (elim q.1 [ inl z ↦ (s.asked n q.0 z).1 | inr z ↦ s.fine.actual n q.0 z ]));
-        pat_expected = λ n x i. (let q = At-unclosed m c.result.pat_mismatches n x i in of_under q.0.expected x.expected (ap (λ (y : TypeMismatch). y.expected) q.2) (s.fine.pat_expected n q.0 q.1));
-        pat_actual = λ n x i. (let q = At-unclosed m c.result.pat_mismatches n x i in of_under q.0.actual x.actual (ap (λ (y : TypeMismatch). y.actual) q.2) (s.fine.pat_actual n q.0 q.1));
-      }
+  each_type = record { each = each_in }
 
 module _ (sc : Scope) (c : InferenceContext) (s : IsSound sc c) where
   fallen_back : (t : Ty) → HasFineHeads sc t → ty_fits sc (folded fallback t) ≡ true

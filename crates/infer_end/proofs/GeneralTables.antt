@@ -4,7 +4,7 @@ use Rattle.std.proofs.lemmas.Option.{slice_get-map, slice_get_within}
 use Rattle.std.proofs.lemmas.List.{length-map}
 use Rattle.infer_end.specs.Words.{Ty, folded_twice, Assignment, composed, folded, BodyId, ExprId, DefWithBodyId, ExprOrPatId, terms_of, RawBody, RawFacts, Schedule, IsCarriedType, IsLawful, body_id_of, IsWalkable, ty_fits, Scope, scope_of, params_of, IsPlainBody, IsPlainBodyOf, are_direct_structs, bindings, State, resolved_type, Meets, resolution, completion, Respects, Triangular, Proof, Gap, General, InferenceResult, AllTypes, AllSeen, IsMade, AreOwnTypes, AreLetTypes, Given, IsAtMaybeOrMismatch, HasGap, with_goals, At, HasTy, types_under, IsGeneralType, AreGeneralTypes, GivesPlain, closed_by, IsGeneralOf, HasGeneral, TypeMismatch, Seen, HasNoComplaint, IsDerivation, fallback, IsTableOf, given_by, Extends, closed_types, closed_mismatch, closed_mismatches, same_types, unless_same, asked_or_noted, entry_of, Closes, AskedIsDecided, closed_table, InferenceContext, HasFineHeads, IsFine, IsCarriedIn, IsTold, BodyDone, with_general}
 use Rattle.hir_types.specs.declared.ids.ExprOrPatId.TheVariants as node
-use Rattle.infer_end.proofs.Words.{ty_decides, derivation_of, typed_by_schedule, told_beside, at_kept, pat_at_kept, obeys_kept, pat_kept, misfit_kept, demand_kept, diagnostic_kept, pat_truth_kept, true_seen_kept, found, fine_closed, sound_with, At-unclosed, closed_at, asked_unlike, length-closed_mismatches, At-closed, length-closed, completion_closes}
+use Rattle.infer_end.proofs.Words.{columns_beside, entries_all_under, entries_long, every_type, long_beside, types_beside, ty_decides, derivation_of, typed_by_schedule, told_beside, at_kept, pat_at_kept, obeys_kept, pat_kept, misfit_kept, demand_kept, diagnostic_kept, pat_truth_kept, true_seen_kept, found, fine_closed, sound_with, At-unclosed, closed_at, asked_unlike, length-closed_mismatches, At-closed, length-closed, completion_closes}
 use Rattle.infer_end.specs.Words.infer_table.Solutions.{log_of}
 use Rattle.infer_end.specs.Words.infer_ctx.Said.{said}
 use Rattle.infer_end.specs.Own.{OnlyGoals, StaysOfPlain, EndsAs, AreResolved, HoldsResolved, KeepsGeneral, IsFull, HasAllTypes, NoneStays}
@@ -16,6 +16,8 @@ use Rattle.infer_end.proofs.GeneralTypes.{fine_general, fine_known, chosen, chos
 use Rattle.infer_end.proofs.PlainBodies.{plain_body, no_ctor_aliases, no_placeholder, calls_item, none_plain, no_let_aliases}
 use Rattle.infer_end.proofs.PlainGoals.{plain_needs}
 use Rattle.infer_end.proofs.Staying.{none_stays}
+use Rattle.infer_end.specs.Words.infer_result.Columns.{Column, Entry, entry_kind, col, with_columns, IsIn, AllIn, AreComplaints, entries_under}
+use Rattle.infer_end.specs.Words.infer_result.Columns as column
 
 -- ---- a table with other types before fallback, other proofs and other gaps
 module _ (r : InferenceResult) (o : Option General) (ps : List Proof) (js : List (Ty × Ty)) (gs hs : List (List Gap)) where
@@ -24,34 +26,13 @@ module _ (r : InferenceResult) (o : Option General) (ps : List Proof) (js : List
 
   other_extends : Extends r other
   other_extends = record {
-    exprs = λ e t h. h;
-    pats = λ p t h. h;
-    bindings = λ v t h. h;
-    modes = λ p m h. h;
-    pat_diagnostics = λ p d h. h;
-    expr_variants = λ n v h. h;
-    pat_variants = λ p v h. h;
-    mismatches = λ e m h. h;
-    pat_mismatches = λ p m h. h;
-    placeholders = λ k t h. h;
-    items = λ p t h. h;
+    columns = columns_beside r other;
     diagnostics = λ e d h. inl h;
     seen = λ e h. record { position = h.position; entry = h.entry; found = h.found; is_node = h.is_node };
   }
 
   all_types_other : (P : Ty → Type 0) → AllTypes P r → AllTypes P other
-  all_types_other P h = record {
-    exprs = h.exprs;
-    pats = h.pats;
-    bindings = h.bindings;
-    placeholders = h.placeholders;
-    items = h.items;
-    expected = h.expected;
-    actual = h.actual;
-    pat_expected = h.pat_expected;
-    pat_actual = h.pat_actual;
-    found = h.found;
-  }
+  all_types_other P h = types_beside P r other h
 
   clause_kept : (g : Given) (x : Option Ty) → IsAtMaybeOrMismatch r g.body.root x → IsAtMaybeOrMismatch other g.body.root x
   clause_kept g None h = h
@@ -60,7 +41,7 @@ module _ (r : InferenceResult) (o : Option General) (ps : List Proof) (js : List
   made_other : (g : Given) → IsMade g r → IsMade g other
   made_other g m = record {
     shape = record {
-      of_body = assumption (m.shape.of_body);
+      of_body = long_beside g.body r other m.shape.of_body;
       closed = all_types_other _ m.shape.closed;
       modes = m.shape.modes;
       placeholders = m.shape.placeholders;
@@ -82,20 +63,6 @@ module _ (r : InferenceResult) (o : Option General) (ps : List Proof) (js : List
       said = m.complaints.said;
     };
   }
-
-pub all_types_so : (P Q : Ty → Type 0) (r : InferenceResult) → ((t : Ty) → P t → Q t) → AllTypes P r → AllTypes Q r
-all_types_so P Q r f h = record {
-  exprs = λ n t at. f t (h.exprs n t at);
-  pats = λ n t at. f t (h.pats n t at);
-  bindings = λ n t at. f t (h.bindings n t at);
-  placeholders = λ n t at. f t (h.placeholders n t at);
-  items = λ n t at. f t (h.items n t at);
-  expected = λ n x at. f x.expected (h.expected n x at);
-  actual = λ n x at. f x.actual (h.actual n x at);
-  pat_expected = λ n x at. f x.expected (h.pat_expected n x at);
-  pat_actual = λ n x at. f x.actual (h.pat_actual n x at);
-  found = λ n k t at. f t (h.found n k t at);
-}
 
 -- ---- lists without entries
 abbrev HasNone : {A : Type 0} → List (Option A) → Type 0
@@ -261,89 +228,69 @@ module _ (raw : RawFacts) (d : DefWithBodyId) (i : BodyId) (b : RawBody) (s : Sc
         other_table = closed_table q c.asked (result_with (Some x))
 
         no_diagnostic : HasNone c.result.expr_diagnostics
-        no_diagnostic n y there = clean.diagnostics n y (ap (λ l. slice_get l n) (said_nothing (completion c.goals.table)) ∙ there)
+        no_diagnostic n y there = clean.complaints column.expr_diagnostics tt n y (ap (λ l. slice_get l n) (said_nothing (completion c.goals.table)) ∙ there)
+
+        none_noted : (k : Column) → AreComplaints (entry_kind k) → (n : ℕ) (y : Entry k) → IsIn other_table k n y → ⊥
+        none_noted column.expr_mismatches is = none_stands q (completion c.goals.table) c at_q completes done.decided (clean.complaints column.expr_mismatches tt)
+        none_noted column.expr_diagnostics is = λ n y there. no_diagnostic n y (ap (λ l. slice_get l n) (sym (said_nothing q)) ∙ there)
+        none_noted column.pat_mismatches is = none_under (closed_mismatch (completion c.goals.table)) (closed_mismatch q) c.result.pat_mismatches (clean.complaints column.pat_mismatches tt)
+        none_noted column.pat_diagnostics is = clean.complaints column.pat_diagnostics tt
+        none_noted _ is = absurd is
 
         other_clean : HasNoComplaint other_table
-        other_clean = record {
-          mismatches = none_stands q (completion c.goals.table) c at_q completes done.decided clean.mismatches;
-          diagnostics = λ n y there. no_diagnostic n y (ap (λ l. slice_get l n) (sym (said_nothing q)) ∙ there);
-          pat_mismatches = none_under (closed_mismatch (completion c.goals.table)) (closed_mismatch q) c.result.pat_mismatches clean.pat_mismatches;
-          pat_diagnostics = clean.pat_diagnostics;
-          gaps = no_gap;
-        }
+        other_clean = record { complaints = none_noted; gaps = no_gap }
           where
             no_gap : (n : ExprOrPatId) (y : Gap) → HasGap other_table n y → ⊥
             no_gap (node.ExprId e) y h = clean.gaps (node.ExprId e) y (record { gaps = h.gaps; at = h.at; number = h.number; listed = h.listed })
             no_gap (node.PatId p) y h = clean.gaps (node.PatId p) y (record { gaps = h.gaps; at = h.at; number = h.number; listed = h.listed })
 
-        heads_of : (xs : List (Option Ty)) → ((n : ℕ) (t : Ty) → At xs n t → IsFine sc c.goals.table t) → (n : ℕ) (t : Ty) → At (closed_types q xs) n t → HasFineHeads sc t
-        heads_of xs fine n t there = (let k = At-unclosed (folded q) xs n t there in subst (λ u. HasFineHeads sc u) k.2 (chosen_heads sc a gives c done.sound k.0 (fine n k.0 k.1).heads))
+        heads_in : (k : Column) (n : ℕ) (x : Entry k) → IsIn other_table k n x → AllIn (HasFineHeads sc) (entry_kind k) x
+        heads_in column.expr_mismatches n y there = absurd (other_clean.complaints column.expr_mismatches tt n y there)
+        heads_in column.expr_diagnostics n y there = absurd (other_clean.complaints column.expr_diagnostics tt n y there)
+        heads_in k n x there =
+            entries_all_under (IsFine sc c.goals.table) (HasFineHeads sc) q (λ t h. chosen_heads sc a gives c done.sound t h.heads) (entry_kind k) (col c.result k) (done.sound.fine.each k) n x there
 
         other_heads : AllTypes (HasFineHeads sc) other_table
-        other_heads = record {
-          exprs = heads_of c.result.type_of_expr done.sound.fine.exprs;
-          pats = heads_of c.result.type_of_pat done.sound.fine.pats;
-          bindings = heads_of c.result.type_of_binding done.sound.fine.bindings;
-          placeholders = heads_of c.result.type_of_placeholder done.sound.fine.placeholders;
-          items = heads_of c.result.item_of_pat done.sound.fine.items;
-          expected = λ n y there. absurd (other_clean.mismatches n y there);
-          actual = λ n y there. absurd (other_clean.mismatches n y there);
-          pat_expected = λ n y there. absurd (other_clean.pat_mismatches n y there);
-          pat_actual = λ n y there. absurd (other_clean.pat_mismatches n y there);
-          found = λ n k t there. absurd (other_clean.diagnostics n _ there);
-        }
+        other_heads = record { each = heads_in }
 
         other_carried : (e : ExprId) (t : Ty) → HasTy other_table e t → IsCarriedIn sc t
         other_carried e t there =
             let k = At-unclosed (folded q) c.result.type_of_expr e.0 t there in
             record {
-              carried = subst (λ u. IsCarriedType u) k.2 (fine_closed sc q k.0 at_q.closing (done.sound.fine.exprs e.0 k.0 k.1).heads);
-              heads = other_heads.exprs e.0 t there;
+              carried = subst (λ u. IsCarriedType u) k.2 (fine_closed sc q k.0 at_q.closing (done.sound.fine.each column.type_of_expr e.0 k.0 k.1).heads);
+              heads = other_heads.each column.type_of_expr e.0 t there;
             }
 
         other_is_table : IsTableOf raw d other_table
         other_is_table =
             let r : InferenceResult = closed_table q c.asked c.result in
-            table_of raw d i b s inputs output aliases other_table id at law own lets (made_other r (Some x) ps js gs hs g (done.made q at_q)) (all_types_so _ _ other_table (fine_fits sc) other_heads) (seen_still_fit q (Some x)) (all_types_so _ _ other_table (heads_are_read sc) other_heads)
+            table_of raw d i b s inputs output aliases other_table id at law own lets (made_other r (Some x) ps js gs hs g (done.made q at_q)) (every_type _ _ other_table (fine_fits sc) other_heads) (seen_still_fit q (Some x)) (every_type _ _ other_table (heads_are_read sc) other_heads)
 
         other_derives : are_direct_structs raw ≡ true → IsDerivation raw d other_table
         other_derives structs =
             let h = other_is_table in
-            derivation_of raw d other_table h (plain_names_none raw lawful d plain) (no_let_aliases raw (params_of raw d) h.body (plain_body raw d h.body plain h.is_body) lawful) (all_types_so _ _ other_table (fine_known sc) other_heads) other_clean (λ obeys. plain_needs raw lawful h.body other_table structs d plain h.is_body h.typed.shape.items obeys other_carried)
+            derivation_of raw d other_table h (plain_names_none raw lawful d plain) (no_let_aliases raw (params_of raw d) h.body (plain_body raw d h.body plain h.is_body) lawful) (every_type _ _ other_table (fine_known sc) other_heads) other_clean (λ obeys. plain_needs raw lawful h.body other_table structs d plain h.is_body h.typed.shape.items obeys other_carried)
+
+        -- a column under the one assignment is as long as under the other
+        as_long : (k : Column) → length (entries_under q (entry_kind k) (col c.result k)) ≡ length (entries_under (completion c.goals.table) (entry_kind k) (col c.result k))
+        as_long k = entries_long q (entry_kind k) (col c.result k) ∙ sym (entries_long (completion c.goals.table) (entry_kind k) (col c.result k))
 
         -- it is the table with these types in the place of its own
+        same_in : (k : Column) → col other_table k ≡ col (closed_by a x table) k
+        same_in column.type_of_expr = types_closed a c.goals.table c.result.type_of_expr x.exprs resolved.exprs
+        same_in column.type_of_pat = types_closed a c.goals.table c.result.type_of_pat x.pats resolved.pats
+        same_in column.type_of_binding = types_closed a c.goals.table c.result.type_of_binding x.bindings resolved.bindings
+        same_in column.item_of_pat = both_none _ _ (as_long column.item_of_pat) (no_items q) (no_items (completion c.goals.table))
+        same_in column.type_of_placeholder = both_none _ _ (as_long column.type_of_placeholder) (no_placeholders q) (no_placeholders (completion c.goals.table))
+        same_in column.expr_mismatches =
+            let count : (z : Assignment) → length (closed_mismatches z c.asked c.result.expr_mismatches) ≡ length c.result.expr_mismatches = λ z. length-closed_mismatches z c.asked c.result.expr_mismatches in
+            both_none _ _ (count q ∙ sym (count (completion c.goals.table))) (other_clean.complaints column.expr_mismatches tt) (clean.complaints column.expr_mismatches tt)
+        same_in column.expr_diagnostics = said_nothing q ∙ sym (said_nothing (completion c.goals.table))
+        same_in column.pat_mismatches = both_none _ _ (as_long column.pat_mismatches) (other_clean.complaints column.pat_mismatches tt) (clean.complaints column.pat_mismatches tt)
+        same_in _ = refl
+
         is_closed_by : other_table ≡ closed_by a x table
-        is_closed_by =
-            let r : InferenceResult = c.result in
-            let z : Assignment = completion c.goals.table in
-            let exprs = types_closed a c.goals.table r.type_of_expr x.exprs resolved.exprs in
-            let pats = types_closed a c.goals.table r.type_of_pat x.pats resolved.pats in
-            let bound = types_closed a c.goals.table r.type_of_binding x.bindings resolved.bindings in
-            let items = both_none (closed_types q r.item_of_pat) (closed_types z r.item_of_pat) (length-closed (folded q) r.item_of_pat ∙ sym (length-closed (folded z) r.item_of_pat)) (no_items q) (no_items z) in
-            let holes = both_none (closed_types q r.type_of_placeholder) (closed_types z r.type_of_placeholder) (length-closed (folded q) r.type_of_placeholder ∙ sym (length-closed (folded z) r.type_of_placeholder)) (no_placeholders q) (no_placeholders z) in
-            let noted = both_none (closed_mismatches q c.asked r.expr_mismatches) (closed_mismatches z c.asked r.expr_mismatches) (length-closed_mismatches q c.asked r.expr_mismatches ∙ sym (length-closed_mismatches z c.asked r.expr_mismatches)) other_clean.mismatches clean.mismatches in
-            let told = said_nothing q ∙ sym (said_nothing z) in
-            let pat_noted = both_none (map (option_map (closed_mismatch q)) r.pat_mismatches) (map (option_map (closed_mismatch z)) r.pat_mismatches) (length-closed (closed_mismatch q) r.pat_mismatches ∙ sym (length-closed (closed_mismatch z) r.pat_mismatches)) other_clean.pat_mismatches clean.pat_mismatches in
-            λ k. record {
-              type_of_expr = exprs k;
-              type_of_pat = pats k;
-              type_of_binding = bound k;
-              item_of_pat = items k;
-              type_of_placeholder = holes k;
-              binding_modes = r.binding_modes;
-              expr_mismatches = noted k;
-              expr_diagnostics = told k;
-              pat_mismatches = pat_noted k;
-              pat_diagnostics = r.pat_diagnostics;
-              expr_variants = r.expr_variants;
-              pat_variants = r.pat_variants;
-              seen = r.seen;
-              proofs = ps;
-              projections = js;
-              expr_gaps = gs;
-              pat_gaps = hs;
-              general = Some x;
-            }
+        is_closed_by = λ i. with_columns table (λ k. same_in k i)
 
         closing_derives : are_direct_structs raw ≡ true → IsDerivation raw d (closed_by a x table)
         closing_derives structs = subst (λ t. IsDerivation raw d t) is_closed_by (other_derives structs)
@@ -361,12 +308,12 @@ module _ (raw : RawFacts) (d : DefWithBodyId) (i : BodyId) (b : RawBody) (s : Sc
             body = b;
             is_body = found_body raw d i b id at;
             types = record {
-              exprs_count = count c.result.type_of_expr x.exprs (length b.exprs) resolved.exprs of_body.exprs;
-              pats_count = count c.result.type_of_pat x.pats (length b.pats) resolved.pats of_body.pats;
-              bindings_count = count c.result.type_of_binding x.bindings (length b.bindings) resolved.bindings of_body.bindings;
-              exprs = general_of c.result.type_of_expr x.exprs resolved.exprs done.sound.fine.exprs;
-              pats = general_of c.result.type_of_pat x.pats resolved.pats done.sound.fine.pats;
-              bindings = general_of c.result.type_of_binding x.bindings resolved.bindings done.sound.fine.bindings;
+              exprs_count = count c.result.type_of_expr x.exprs (length b.exprs) resolved.exprs (of_body.long column.type_of_expr);
+              pats_count = count c.result.type_of_pat x.pats (length b.pats) resolved.pats (of_body.long column.type_of_pat);
+              bindings_count = count c.result.type_of_binding x.bindings (length b.bindings) resolved.bindings (of_body.long column.type_of_binding);
+              exprs = general_of c.result.type_of_expr x.exprs resolved.exprs (done.sound.fine.each column.type_of_expr);
+              pats = general_of c.result.type_of_pat x.pats resolved.pats (done.sound.fine.each column.type_of_pat);
+              bindings = general_of c.result.type_of_binding x.bindings resolved.bindings (done.sound.fine.each column.type_of_binding);
             };
             falls_back = record {
               exprs = types_closed fallback c.goals.table c.result.type_of_expr x.exprs resolved.exprs;
@@ -455,7 +402,7 @@ has_all_types g s c law done =
     let r : InferenceResult = closed_table a c.asked c.result in
     let h = typed_by_schedule g r s law.schedule (done.made a done.sound.some.1) in
     record {
-      exprs = full_under a c.result.type_of_expr (length g.body.exprs) h.shape.of_body.exprs (λ n within. h.total.exprs (record { 0 = n }) within);
-      pats = full_under a c.result.type_of_pat (length g.body.pats) h.shape.of_body.pats (λ n within. h.total.pats (record { 0 = n }) within);
-      bindings = full_under a c.result.type_of_binding (length g.body.bindings) h.shape.of_body.bindings (λ n within. h.total.bindings (record { 0 = n }) within);
+      exprs = full_under a c.result.type_of_expr (length g.body.exprs) (h.shape.of_body.long column.type_of_expr) (λ n within. h.total.exprs (record { 0 = n }) within);
+      pats = full_under a c.result.type_of_pat (length g.body.pats) (h.shape.of_body.long column.type_of_pat) (λ n within. h.total.pats (record { 0 = n }) within);
+      bindings = full_under a c.result.type_of_binding (length g.body.bindings) (h.shape.of_body.long column.type_of_binding) (λ n within. h.total.bindings (record { 0 = n }) within);
     }

@@ -4,6 +4,7 @@ use Rattle.std.specs.Prelude.{◌<◌, length, false}
 use Rattle.std.proofs.Common.{◌≡◌, ◌∙◌, ℕ, zero, suc, refl, sym, ap, subst, inl, inr, arith, List, [], ◌∷◌, map, slice_get, Option, Some, None, option_map}
 use Rattle.hir_types.specs.declared.ty.Ty.TheVariants as ty
 use Rattle.infer_end.specs.Words.{Assignment, folded, DefWithBodyId, GenericDefId, ExprId, TypeAliasId, GenericArg, Ty, term_associated_type, RawBody, RawFacts, has_associated, completion, Grew, ItemSources, IsSystemOf, system, scope_item, Given, MismatchAt, mismatch, InferenceResult, InferenceContext, closed_types, SettlesNeeds}
+use Rattle.infer_end.specs.Words.infer_result.Columns as column
 use Rattle.infer_end.specs.Own.{IsSelectedBody, ComesOfSelection, IsFull, KeepsGeneral, HoldsStaying, NoneStays}
 
 -- ---- types
@@ -63,4 +64,4 @@ bound_stays g old new s = s.settles.binds.follows.grew
 
 -- in a body where no associated type may be a type none stands in a mismatch: one that says `expected=bool actual=<u8 as Tr>::Out` is refused
 pub false_mismatch : (raw : RawFacts) (d : DefWithBodyId) (r : InferenceResult) → NoneStays raw d r → has_associated raw d ≡ false → (e : ExprId) (t : Ty) (k : TypeAliasId) (xs : List GenericArg) → MismatchAt r e t (ty.AssociatedType k xs) → ⊥
-false_mismatch raw d r stays none e t k xs at = (stays none).actual e.0 (mismatch t (ty.AssociatedType k xs)) at (subst HoldsStaying (sym (term_associated_type k xs)) (inl tt))
+false_mismatch raw d r stays none e t k xs at = ((stays none).each column.expr_mismatches e.0 (mismatch t (ty.AssociatedType k xs)) at).1 (subst HoldsStaying (sym (term_associated_type k xs)) (inl tt))

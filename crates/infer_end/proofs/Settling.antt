@@ -2,7 +2,7 @@
 use Rattle.std.specs.Prelude.{ℕ, suc, length}
 use Rattle.std.proofs.Common.{◌≡◌, ◌∙◌, refl, sym, ap, subst, inl, inr, arith, true≢false, List, Option, Some, None, is_some, true, false}
 use Rattle.infer_end.specs.Words.{terms_of, DefWithBodyId, RawFacts, completion, FellBack, Respects, State, Meets, bindings, IsOfBody, IsMade, Given, At, General, InferenceResult, TypeMismatch, GoalTable, stays_with, InferenceContext, IsSound, closed_table, with_general, with_table, is_fine_head, BodyDone, OnlyBinds, ReadsOn, IsSelection, SelectsInWalk}
-use Rattle.infer_end.proofs.Words.{binds_only_fallen, told_same, decided_later, closes_earlier, binds_nothing, binds_twice, sound_later}
+use Rattle.infer_end.proofs.Words.{long_beside, binds_only_fallen, told_same, decided_later, closes_earlier, binds_nothing, binds_twice, sound_later}
 use Rattle.infer_end.specs.Own.{KeepsGeneral, OnlyGoals, FallsBack, SelectsThenReads, SelectsThenReadsTimes, SelectsAndReadsOn, SettlesBody, SettlesLast}
 
 -- where some holes more are bound
@@ -103,19 +103,7 @@ settles_last d g old new none done only settles = record {
 
 -- with other types before fallback
 general_of_body : (g : Given) (c : InferenceContext) (o : Option General) → IsOfBody g.body c.result → IsOfBody g.body (with_general c o).result
-general_of_body g c o h = record {
-  exprs = h.exprs;
-  pats = h.pats;
-  bindings = h.bindings;
-  items = h.items;
-  modes = h.modes;
-  mismatches = h.mismatches;
-  diagnostics = h.diagnostics;
-  pat_mismatches = h.pat_mismatches;
-  pat_diagnostics = h.pat_diagnostics;
-  expr_variants = h.expr_variants;
-  pat_variants = h.pat_variants;
-}
+general_of_body g c o h = long_beside g.body c.result (with_general c o).result h
 
 pub kept_of_body : (g : Given) (raw : RawFacts) (d : DefWithBodyId) (c last : InferenceContext) → IsOfBody g.body c.result → KeepsGeneral raw d c last → IsOfBody g.body last.result
 kept_of_body g raw d c last h (inl (plain, (x, resolved, is))) = subst (λ (z : InferenceContext). IsOfBody g.body z.result) (sym is) (general_of_body g c (Some x) h)

@@ -13,24 +13,26 @@ use Rattle.hir_raw.specs.declared.schedule.Schedule.{Schedule}
 use Rattle.hir_types.specs.Fallback.{fallback}
 use Rattle.infer_result.specs.Places.{Given}
 use Rattle.infer_result.specs.Made.{IsMade}
-use Rattle.infer_result.specs.declared.diagnostics.InferenceDiagnostic.TheVariants as diagnostic
+use Rattle.infer_result.specs.Columns.{Column, EntryKind, entry_kind, index, with_columns, count_of, mismatch_under, diagnostic_under, entries_under}
+use Rattle.infer_result.specs.Columns as column
+use Rattle.infer_ctx.specs.Writes as writes
 use Rattle.infer_table.specs.Table.{State, new_state}
 use Rattle.infer_goals.specs.declared.table.GoalTable.{GoalTable}
 use Rattle.infer_ctx.specs.Asked.{AreGoalsOf}
-use Rattle.infer_ctx.specs.Closings.{closed_mismatches, closed_mismatch, found_under, IsSound, Closes}
+use Rattle.infer_ctx.specs.Closings.{closed_mismatches, closed_column, found_under, IsSound, Closes}
 use Rattle.infer_ctx.specs.Context.{empty_context, IsCarriedExpectation}
-use Rattle.infer_ctx.specs.Found.{expr_variant, pat_variant, nothing_found, Found}
+use Rattle.infer_ctx.specs.Found.{nothing_found, Found}
 use Rattle.infer_ctx.specs.declared.context.InferenceContext.{InferenceContext}
 use Rattle.infer_ctx.specs.Under.{WrittenExist, CoerceWalked}
 use Rattle.infer_ctx.specs.Walks.{expr_end}
-use Rattle.infer_ctx.specs.Fine.{IsFineExpectation}
+use Rattle.infer_ctx.specs.Fine.{IsFine, IsFineExpectation}
 use Rattle.infer_ctx.specs.Steps.{Before, CoerceDone, BodyDone, Follows, OnlyBinds}
 use Rattle.infer_ctx.proofs.UnderClosings.{of_body_unclosed, same_found}
 use Rattle.infer_ctx.proofs.AtEach.{walking_after, closes_before, follows_twice}
 use Rattle.infer_ctx.proofs.OverTypes.{expected_closed}
 use Rattle.infer_coerce.specs.MadeEqual.{Settles}
 use Rattle.infer_expr.specs.Params.{BeforeParams, ComesToParams, ParamsDone, ParamsWalked}
-use Rattle.infer_expr.proofs.Whole.{At-replicate, params_before, root_before, body_made}
+use Rattle.infer_expr.proofs.Whole.{At-replicate, no_types, params_before, root_before, body_made}
 
 none_under : {A B : Type 0} (f : A → B) (n : ℕ) → map (option_map f) (replicate n None) ≡ replicate n None
 none_under f zero = refl
@@ -40,47 +42,26 @@ none_asked : (a : Assignment) (n : ℕ) → closed_mismatches a (replicate n Non
 none_asked a zero = refl
 none_asked a (suc n) = ap (λ xs. None ∷ xs) (none_asked a n)
 
+entries_none : (a : Assignment) (k : EntryKind) (n : ℕ) → entries_under a k (replicate n None) ≡ replicate n None
+entries_none a column.a_type n = none_under (folded a) n
+entries_none a column.a_mismatch n = none_under (mismatch_under a) n
+entries_none a column.a_diagnostic n = none_under (diagnostic_under a) n
+entries_none a _ n = refl
+
+nothing_in : (a : Assignment) (b : RawBody) (c : Column) → closed_column a (replicate (length b.exprs) None) (writes.nothing b) c ≡ writes.first_entries b c
+nothing_in a b column.expr_mismatches = none_asked a (length b.exprs)
+nothing_in a b column.expr_diagnostics = refl
+nothing_in a b column.expr_variants = refl
+nothing_in a b column.pat_variants = refl
+nothing_in a b c = entries_none a (entry_kind c) (count_of b (index c))
+
 pub nothing_under : (a : Assignment) (b : RawBody) (goals : GoalTable) → found_under a (empty_context b goals) ≡ nothing_found a b
-nothing_under a b goals = λ i. record {
-  result = record {
-    type_of_expr = none_under (folded a) (length b.exprs) i;
-    type_of_pat = none_under (folded a) (length b.pats) i;
-    type_of_binding = none_under (folded a) (length b.bindings) i;
-    item_of_pat = none_under (folded a) (length b.pats) i;
-    type_of_placeholder = [];
-    binding_modes = replicate (length b.pats) None;
-    expr_mismatches = none_asked a (length b.exprs) i;
-    expr_diagnostics = replicate (length b.exprs) None;
-    pat_mismatches = none_under (closed_mismatch a) (length b.pats) i;
-    pat_diagnostics = replicate (length b.pats) None;
-    expr_variants = map expr_variant b.exprs;
-    pat_variants = map pat_variant b.pats;
-    seen = [];
-    proofs = [];
-    projections = [];
-    expr_gaps = [];
-    pat_gaps = [];
-    general = None;
-  };
-  clock = 1;
-  holes = a;
-}
+nothing_under a b goals = λ i. record { result = with_columns (writes.nothing b) (λ c. nothing_in a b c i); clock = 1; holes = a }
 
 -- with a table of holes that is new
 new_sound : (sc : Scope) (b : RawBody) (goals : GoalTable) → IsSound sc (empty_context b (record goals { table = new_state }))
 new_sound sc b goals = record {
-  fine = record {
-    exprs = λ n t i. absurd (At-replicate (length b.exprs) n t i);
-    pats = λ n t i. absurd (At-replicate (length b.pats) n t i);
-    bindings = λ n t i. absurd (At-replicate (length b.bindings) n t i);
-    placeholders = λ n t i. absurd (cc);
-    items = λ n t i. absurd (At-replicate (length b.pats) n t i);
-    found = λ n k t i. absurd (At-replicate (length b.exprs) n (diagnostic.ExpectedFunction k t) i);
-    expected = λ n m i. absurd (At-replicate (length b.exprs) n m i);
-    actual = λ n m i. absurd (At-replicate (length b.exprs) n m i);
-    pat_expected = λ n m i. absurd (At-replicate (length b.pats) n m i);
-    pat_actual = λ n m i. absurd (At-replicate (length b.pats) n m i);
-  };
+  fine = no_types (IsFine sc new_state) b;
   seen = record { types = λ i y there. absurd (cc); others = λ i y t there is. absurd (cc) };
   asked = λ n m i. absurd (At-replicate (length b.exprs) n m i);
   kept = λ n m i. absurd (At-replicate (length b.exprs) n m i);

@@ -11,14 +11,18 @@ use Rattle.hir_raw.specs.declared.raw.RawBody.{RawBody}
 use Rattle.hir_raw.specs.declared.schedule.Schedule.{Schedule}
 use Rattle.hir_raw.specs.Order.{inner, the_body, start, IsInBody, IsSchedule, root, expr_part, param_parts, body_parts, end}
 use Rattle.hir_facts.specs.Bodies.{IsWalkable}
+use Rattle.hir_facts.specs.CarriedTypes.{IsCarriedType}
 use Rattle.infer_result.specs.Table.{At}
 use Rattle.infer_result.specs.Places.{Given, IsAtMaybeOrMismatch}
 use Rattle.infer_result.specs.Demands.{Demand}
 use Rattle.infer_result.specs.declared.result.InferenceResult.{InferenceResult}
 use Rattle.infer_result.specs.declared.result.TypeMismatch.{TypeMismatch}
 use Rattle.infer_result.specs.Made.{IsMade, IsMisfit}
-use Rattle.infer_result.specs.declared.diagnostics.InferenceDiagnostic.TheVariants as diagnostic
-use Rattle.infer_ctx.specs.Walks.{IsFree, IsCarriedTable, expr_end, IsWalked, Walks, Nothing, Owed}
+use Rattle.infer_result.specs.Closed.{AllTypes}
+use Rattle.infer_result.specs.Columns.{Column, Entry, entry_kind, index, col, IsIn, IsLong, AllIn, count_of}
+use Rattle.infer_result.specs.Columns as column
+use Rattle.infer_ctx.specs.Writes as writes
+use Rattle.infer_ctx.specs.Walks.{IsFree, expr_end, IsWalked, Walks, Nothing, Owed}
 use Rattle.infer_ctx.specs.Found.{nothing_found, expr_variant, pat_variant, Found}
 use Rattle.infer_ctx.specs.Context.{IsCarriedExpectation}
 use Rattle.infer_ctx.specs.Under.{LieAhead, IsReady, WrittenExist, ComesTo, IsPlaced, CoerceWalked}
@@ -44,6 +48,20 @@ module _ {A : Type 0} where
   At-replicate (suc n) zero a h = cc
   At-replicate (suc n) (suc i) a h = At-replicate n i a h
 
+none_in : (P : Ty → Type 0) (b : RawBody) (c : Column) (n : ℕ) (x : Entry c) → IsIn (writes.nothing b) c n x → AllIn P (entry_kind c) x
+none_in P b column.expr_variants n x i = tt
+none_in P b column.pat_variants n x i = tt
+none_in P b c n x i = absurd (At-replicate (count_of b (index c)) n x i)
+
+pub no_types : (P : Ty → Type 0) (b : RawBody) → AllTypes P (writes.nothing b)
+no_types P b = record { each = none_in P b }
+
+long_in : (b : RawBody) (c : Column) → IsLong b (index c) (length (col (writes.nothing b) c))
+long_in b column.expr_variants = length-map b.exprs expr_variant
+long_in b column.pat_variants = length-map b.pats pat_variant
+long_in b column.type_of_placeholder = tt
+long_in b c = length-replicate (count_of b (index c)) None
+
 -- each node but the body has a number above 0
 inner_start : (b : RawBody) (s : Schedule) (x : ExprOrPatId) → IsSchedule b s → IsInBody b x → 0 < start b s (inner x)
 inner_start b s x law h =
@@ -56,20 +74,6 @@ inner_start b s x law h =
     above a n = grind arith
 
 module _ (b : RawBody) (s : Schedule) (law : IsWalkable b s) where
-  empty_carried : (a : Assignment) → IsCarriedTable (nothing_found a b).result
-  empty_carried a = record {
-    exprs = λ n t i. absurd (At-replicate (length b.exprs) n t i);
-    pats = λ n t i. absurd (At-replicate (length b.pats) n t i);
-    bindings = λ n t i. absurd (At-replicate (length b.bindings) n t i);
-    placeholders = λ n t i. absurd (cc);
-    items = λ n t i. absurd (At-replicate (length b.pats) n t i);
-    found = λ n k t i. absurd (At-replicate (length b.exprs) n (diagnostic.ExpectedFunction k t) i);
-    expected = λ n m i. absurd (At-replicate (length b.exprs) n m i);
-    actual = λ n m i. absurd (At-replicate (length b.exprs) n m i);
-    pat_expected = λ n m i. absurd (At-replicate (length b.pats) n m i);
-    pat_actual = λ n m i. absurd (At-replicate (length b.pats) n m i);
-  }
-
   -- the parts of the body lie ahead
   body_ahead : LieAhead b s the_body 1 (body_parts b)
   body_ahead =
@@ -85,20 +89,8 @@ module _ (b : RawBody) (s : Schedule) (law : IsWalkable b s) where
 
 empty_walked : (g : Given) (s : Schedule) (a : Assignment) → IsWalkable g.body s → IsWalked g s (nothing_found a g.body)
 empty_walked g s a law = record {
-  of_body = record {
-    exprs = length-replicate (length g.body.exprs) None;
-    pats = length-replicate (length g.body.pats) None;
-    bindings = length-replicate (length g.body.bindings) None;
-    items = length-replicate (length g.body.pats) None;
-    modes = length-replicate (length g.body.pats) None;
-    mismatches = length-replicate (length g.body.exprs) None;
-    pat_mismatches = length-replicate (length g.body.pats) None;
-    diagnostics = length-replicate (length g.body.exprs) None;
-    pat_diagnostics = length-replicate (length g.body.pats) None;
-    expr_variants = length-map g.body.exprs expr_variant;
-    pat_variants = length-map g.body.pats pat_variant;
-  };
-  carried = empty_carried g.body s law a;
+  of_body = record { long = long_in g.body };
+  carried = no_types IsCarriedType g.body;
   modes = λ p m i. absurd (At-replicate (length g.body.pats) p.0 m i);
   diagnostics = λ e d i. absurd (At-replicate (length g.body.exprs) e.0 d i);
   pat_diagnostics = λ p d i. absurd (At-replicate (length g.body.pats) p.0 d i);

@@ -19,6 +19,7 @@ use Rattle.infer_needs.proofs.FitSources.{GoalIsCounted, both_true, alias_counte
 use Rattle.infer_needs.proofs.NoPlaceholders.{IsFree, parts_free, own_free, fn_free, variant_free, impls_exist}
 use Rattle.infer_needs.proofs.ReadsFit.{split, reads_fit, still_takes, still_types}
 use Rattle.infer_needs.proofs.Provable.{recorded_at}
+use Rattle.infer_result.specs.Columns as column
 
 -- ---- what is written, and takes as many arguments as it is given
 
@@ -190,7 +191,7 @@ module _ (raw : RawFacts) (law : IsLawful raw) (d : DefWithBodyId) (r : Inferenc
 
   of_type : (k : ℕ) (x : RawExpr) (o : Option Ty) → recorded r.type_of_expr k ≡ o → Each (GoalIsFit raw n) (needs_of raw (Some x) o)
   of_type k x None at = tt
-  of_type k x (Some t) at = expr_fits x t (sym (type_same (scope_of raw d) t) ∙ is.fit.exprs k t (recorded_at (slice_get r.type_of_expr k) t at))
+  of_type k x (Some t) at = expr_fits x t (sym (type_same (scope_of raw d) t) ∙ is.fit.each column.type_of_expr k t (recorded_at (slice_get r.type_of_expr k) t at))
 
   of_place : (k : ℕ) (o : Option RawExpr) → Each (GoalIsFit raw n) (needs_of raw o (recorded r.type_of_expr k))
   of_place k None = tt
@@ -198,7 +199,7 @@ module _ (raw : RawFacts) (law : IsLawful raw) (d : DefWithBodyId) (r : Inferenc
 
   of_item : (k : ℕ) (o : Option Ty) → recorded r.item_of_pat k ≡ o → Each (GoalIsFit raw n) (pat_needs_of raw o)
   of_item k None at = tt
-  of_item k (Some t) at = own_item_fits (out-Ty t) (item_fits raw n t (sym (type_same (scope_of raw d) t) ∙ is.fit.items k t (recorded_at (slice_get r.item_of_pat k) t at)))
+  of_item k (Some t) at = own_item_fits (out-Ty t) (item_fits raw n t (sym (type_same (scope_of raw d) t) ∙ is.fit.each column.item_of_pat k t (recorded_at (slice_get r.item_of_pat k) t at)))
 
   -- each goal that a node needs fits
   pub needs_fit : (b : RawBody) (m : ExprOrPatId) → Each (GoalIsFit raw n) (node_needs raw b r m)

@@ -3,7 +3,7 @@ use Rattle.std.specs.Prelude.{◌≡◌, ◌⊎◌, ◌<◌, ℕ, zero, suc, Lis
 use Rattle.std.specs.Option.{option_and_then}
 use Rattle.std.proofs.Common.{inl, inr, refl, sym, ap, ◌∙◌, subst, arith}
 use Rattle.std.proofs.lemmas.Option.{same_Some, slice_get_within}
-use Rattle.infer_needs.specs.Words.{BodyId, ExprOrPatId, DefWithBodyId, Head, Ty, RawBody, RawExpr, RawFacts, body_of, body_id_of, Asked, System, Proof, asked_goal, IsWrittenHead, IsWritten, Term, hole, leaf, pair, IsSystemOf, Gap, InferenceResult, GoalReads, HasEntry, IsAboutAlias, IsFound, AreFound, MayHold, IsNeeded, HoldsUnknown, HoldsNoHole, IsProved, gap_says, HasGap, IsUnproved, IsClash, IsTrueGap, with_goals, scope_item, GoalsHold, HasNoneLeft, needs_of, pat_needs_of, node_needs, Given, listed_gaps, recorded, given, Scope, scope_of}
+use Rattle.infer_needs.specs.Words.{BodyId, ExprOrPatId, DefWithBodyId, Head, Ty, RawBody, RawExpr, RawFacts, body_of, body_id_of, Asked, System, Proof, asked_goal, IsWrittenHead, IsWritten, Term, hole, leaf, pair, IsSystemOf, Gap, InferenceResult, NoneIsLeft, GoalReads, HasEntry, IsAboutAlias, IsFound, AreFound, MayHold, IsNeeded, HoldsUnknown, HoldsNoHole, IsProved, gap_says, HasGap, IsUnproved, IsClash, IsTrueGap, with_goals, scope_item, GoalsHold, HasNoneLeft, needs_of, pat_needs_of, node_needs, Given, listed_gaps, recorded, given, Scope, scope_of}
 use Rattle.hir_types.specs.declared.ids.ExprOrPatId.TheVariants as node
 use Rattle.hir_types.specs.declared.goal.Goal.TheVariants as goal
 use Rattle.hir_types.specs.declared.head.Head.TheVariants as head
@@ -11,6 +11,7 @@ use Rattle.infer_needs.specs.Own.{AreDistinct, IsProvable, AreProvable, ReadsAbo
 use Rattle.infer_needs.proofs.Adding.{adds_then}
 use Rattle.infer_needs.proofs.Judging.{done_still}
 use Rattle.infer_needs.proofs.Leaving.{table_later}
+use Rattle.infer_needs.proofs.Words.{types_beside}
 
 -- ---- the body of a definition
 
@@ -187,18 +188,7 @@ module _ (raw : RawFacts) (d : DefWithBodyId) (b : RawBody) (f : System) (r : In
   has_none_left = record {
     system = f;
     of_item = of_item;
-    left = (let h = table_later f raw.limits.goal_depth js ks pats.lists.behind r exprs.left in record {
-      exprs = h.exprs;
-      pats = h.pats;
-      bindings = h.bindings;
-      placeholders = h.placeholders;
-      items = h.items;
-      expected = h.expected;
-      actual = h.actual;
-      pat_expected = h.pat_expected;
-      pat_actual = h.pat_actual;
-      found = h.found;
-    });
+    left = types_beside (NoneIsLeft f raw.limits.goal_depth ks) r z (table_later f raw.limits.goal_depth js ks pats.lists.behind r exprs.left);
   }
 
   pub goals_hold : GoalsHold d g z

@@ -5,14 +5,16 @@ use Rattle.std.proofs.Math.Nat.{eq-or-lt_of_le}
 use Rattle.std.proofs.lemmas.Option.{same_Some, slice_get_within}
 use Rattle.hir_types.specs.declared.goal.Goal.TheVariants as goal
 use Rattle.hir_types.specs.declared.head.Head.TheVariants as head
-use Rattle.infer_needs.specs.Words.{ExprId, GenericDefId, TypeAliasId, GenericArg, Ty, Term, leaf, pair, chain, term, arg_term, term_projection, RawFacts, IsFront, Asked, System, projects, answers, IsRead, ReadsAs, staying, Proof, asked_goal, TypeReads, IsTypeRead, AddsProofs, IsProofAt, IsWritten, InferenceResult, TypeMismatch, InferenceDiagnostic, AllTypes, HoldsUnknown, IsPartOf, stays_at, StaysOrIsListed, NoneIsLeft}
+use Rattle.infer_needs.specs.Words.{ExprId, GenericDefId, TypeAliasId, GenericArg, Ty, Term, leaf, pair, chain, term, arg_term, term_projection, RawFacts, IsFront, Asked, System, projects, answers, IsRead, ReadsAs, staying, Proof, asked_goal, TypeReads, IsTypeRead, AddsProofs, IsProofAt, IsWritten, InferenceResult, TypeMismatch, InferenceDiagnostic, At, Column, Entry, entry_kind, AllInDiagnostic, AllIn, AllTypes, HoldsUnknown, IsPartOf, stays_at, StaysOrIsListed, NoneIsLeft}
 use Rattle.hir_types.specs.declared.ty.Ty.TheVariants as ty
-use Rattle.infer_needs.proofs.Words.{get_last, get_more, front_itself}
+use Rattle.infer_needs.proofs.Words.{every_type, get_last, get_more, front_itself}
 use Rattle.infer_result.specs.declared.diagnostics.InferenceDiagnostic.TheVariants as diagnostic
 use Rattle.infer_needs.specs.Own.{EntryFitsIn, EntriesFitIn, HasProofOf, IsEntry, AreEntries, WasRead, WereRead, AddsRead, Lists, staying_head, NoneHere, NoneStands, StandsInType, StandsInMismatch, StandsInDiagnostic, EachIn, EachOf, FindsIn, AddsRootsOf}
 use Rattle.infer_needs.proofs.Adding.{adds_none, adds_then, entry_later, entries_later, lists_none, lists_then}
 use Rattle.infer_needs.proofs.Rooted.{roots_none, roots_more}
 use Rattle.infer_needs.proofs.ReadsYes.{reads_one, reads_read}
+use Rattle.infer_result.specs.Columns.{IsIn}
+use Rattle.infer_result.specs.Columns as column
 
 -- ---- what stays so
 
@@ -39,18 +41,7 @@ module _ (f : System) (n : ℕ) (js ks : List (Ty × Ty)) (l : IsFront js ks) wh
   all_later T xs h i x at = each_later T x (h i x at)
 
   pub table_later : (r : InferenceResult) → AllTypes (NoneIsLeft f n js) r → AllTypes (NoneIsLeft f n ks) r
-  table_later r h = record {
-    exprs = λ i t at. none_later t (h.exprs i t at);
-    pats = λ i t at. none_later t (h.pats i t at);
-    bindings = λ i t at. none_later t (h.bindings i t at);
-    placeholders = λ i t at. none_later t (h.placeholders i t at);
-    items = λ i t at. none_later t (h.items i t at);
-    expected = λ i x at. none_later x.expected (h.expected i x at);
-    actual = λ i x at. none_later x.actual (h.actual i x at);
-    pat_expected = λ i x at. none_later x.expected (h.pat_expected i x at);
-    pat_actual = λ i x at. none_later x.actual (h.pat_actual i x at);
-    found = λ i e t at. none_later t (h.found i e t at);
-  }
+  table_later r h = every_type (NoneIsLeft f n js) (NoneIsLeft f n ks) r none_later h
 
 -- ---- what is added
 
@@ -236,6 +227,19 @@ module _ (raw : RawFacts) (item : GenericDefId) (f : System) {X : Type 0} (T : X
 
 -- ---- an entry, and a table
 
+-- what holds of each type of a column holds of those that stand in its entries
+module _ (P : Ty → Type 0) where
+  pub types_whole : (xs : List (Option Ty)) → ((n : ℕ) (t : Ty) → At xs n t → P t) → EachOf StandsInType P xs
+  types_whole xs h n o at t is = h n t (at ∙ ap (λ y. Some y) is)
+
+  pub mismatches_whole : (xs : List (Option TypeMismatch)) → ((n : ℕ) (m : TypeMismatch) → At xs n m → P m.expected × P m.actual) → EachOf StandsInMismatch P xs
+  mismatches_whole xs h n o at t (m, is, stands) =
+      let both = h n m (at ∙ ap (λ y. Some y) is) in
+      elim stands [ inl e ↦ subst P e both.0 | inr e ↦ subst P e both.1 ]
+
+  pub diagnostics_whole : (xs : List (Option InferenceDiagnostic)) → ((n : ℕ) (d : InferenceDiagnostic) → At xs n d → AllInDiagnostic P d) → EachOf StandsInDiagnostic P xs
+  diagnostics_whole xs h n o at t (e, is) = h n (diagnostic.ExpectedFunction e t) (at ∙ ap (λ y. Some y) is)
+
 module _ (raw : RawFacts) (item : GenericDefId) (f : System) where
   abbrev Left : List (Ty × Ty) → Ty → Type 0
   Left js = NoneIsLeft f raw.limits.goal_depth js
@@ -267,6 +271,28 @@ module _ (raw : RawFacts) (item : GenericDefId) (f : System) where
   later : {X : Type 0} (T : X → Ty → Type 0) (xs : List X) (ps qs : List Proof) (js ks : List (Ty × Ty)) → AddsRead raw item f ps qs js ks → Of T xs js → Of T xs ks
   later T xs ps qs js ks a h = all_later f raw.limits.goal_depth js ks a.lists.behind T xs h
 
+  in_diagnostic : (js : List (Ty × Ty)) (d : InferenceDiagnostic) → EachIn StandsInDiagnostic (Left js) (Some d) → AllInDiagnostic (Left js) d
+  in_diagnostic js (diagnostic.MismatchedArgCount e expected found) h = tt
+  in_diagnostic js (diagnostic.MismatchedTupleStructPatArgCount e expected found) h = tt
+  in_diagnostic js (diagnostic.ExpectedFunction e t) h = h t (e, refl)
+
+  -- what is left in each column
+  module _ (r : InferenceResult) (js : List (Ty × Ty))
+      (exprs : Of StandsInType r.type_of_expr js) (pats : Of StandsInType r.type_of_pat js) (bindings : Of StandsInType r.type_of_binding js)
+      (placeholders : Of StandsInType r.type_of_placeholder js) (items : Of StandsInType r.item_of_pat js)
+      (mismatches : Of StandsInMismatch r.expr_mismatches js) (pat_mismatches : Of StandsInMismatch r.pat_mismatches js)
+      (diagnostics : Of StandsInDiagnostic r.expr_diagnostics js) where
+    left_in : (c : Column) (n : ℕ) (x : Entry c) → IsIn r c n x → AllIn (Left js) (entry_kind c) x
+    left_in column.type_of_expr n t at = exprs n (Some t) at t refl
+    left_in column.type_of_pat n t at = pats n (Some t) at t refl
+    left_in column.type_of_binding n t at = bindings n (Some t) at t refl
+    left_in column.type_of_placeholder n t at = placeholders n (Some t) at t refl
+    left_in column.item_of_pat n t at = items n (Some t) at t refl
+    left_in column.expr_mismatches n x at = (mismatches n (Some x) at x.expected (x, refl, inl refl), mismatches n (Some x) at x.actual (x, refl, inr refl))
+    left_in column.pat_mismatches n x at = (pat_mismatches n (Some x) at x.expected (x, refl, inl refl), pat_mismatches n (Some x) at x.actual (x, refl, inr refl))
+    left_in column.expr_diagnostics n d at = in_diagnostic js d (diagnostics n (Some d) at)
+    left_in _ n x at = tt
+
   pub lists_table : (r : InferenceResult) (p0 p1 p2 p3 p4 p5 p6 p7 p8 : List Proof) (j0 j1 j2 j3 j4 j5 j6 j7 j8 : List (Ty × Ty))
       → Lists raw item f (Of StandsInType r.type_of_expr) p0 p1 j0 j1 → Lists raw item f (Of StandsInType r.type_of_pat) p1 p2 j1 j2
       → Lists raw item f (Of StandsInType r.type_of_binding) p2 p3 j2 j3 → Lists raw item f (Of StandsInType r.type_of_placeholder) p3 p4 j3 j4
@@ -290,16 +316,5 @@ module _ (raw : RawFacts) (item : GenericDefId) (f : System) where
       let pat_mismatches = later StandsInMismatch r.pat_mismatches p7 p8 j7 j8 from7 g.none in
       record {
         adds = read_then raw item f p0 p1 p8 j0 j1 j8 a.adds from1;
-        none = record {
-          exprs = λ i t at. exprs i (Some t) at t refl;
-          pats = λ i t at. pats i (Some t) at t refl;
-          bindings = λ i t at. bindings i (Some t) at t refl;
-          placeholders = λ i t at. placeholders i (Some t) at t refl;
-          items = λ k t at. items k (Some t) at t refl;
-          expected = λ i x at. mismatches i (Some x) at x.expected (x, refl, inl refl);
-          actual = λ i x at. mismatches i (Some x) at x.actual (x, refl, inr refl);
-          pat_expected = λ i x at. pat_mismatches i (Some x) at x.expected (x, refl, inl refl);
-          pat_actual = λ i x at. pat_mismatches i (Some x) at x.actual (x, refl, inr refl);
-          found = λ i n t at. h.none i (Some (diagnostic.ExpectedFunction n t)) at t (n, refl);
-        };
+        none = record { each = left_in r j8 exprs pats bindings placeholders items mismatches pat_mismatches h.none };
       }

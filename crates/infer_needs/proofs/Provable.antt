@@ -1,5 +1,5 @@
 -- Goals that nodes need are without holes and `_`, and so are the types of a table.
-use Rattle.std.specs.Prelude.{◌≡◌, ℕ, suc, List, [], ◌∷◌, length, map, slice_get, Option, Some, None, refl, true}
+use Rattle.std.specs.Prelude.{◌≡◌, ℕ, suc, List, [], ◌∷◌, length, map, slice_get, Option, Some, None, refl, true, IsTrue}
 use Rattle.std.specs.Option.{option_and_then}
 use Rattle.std.proofs.Common.{sym, ap, ◌∙◌, subst}
 use Rattle.std.proofs.lemmas.Option.{same_Some}
@@ -11,10 +11,11 @@ use Rattle.infer_needs.specs.Words.hir_raw.declared.raw.RawExpr.TheVariants as e
 use Rattle.infer_needs.specs.Words.hir_raw.declared.raw.RawPath.TheVariants as path
 use Rattle.infer_needs.specs.Words.hir_raw.declared.raw.RawType.TheVariants as type
 use Rattle.infer_needs.specs.Own.{IsFinalType, Fits, IsProvable, AreProvable}
-use Rattle.infer_needs.proofs.Words.{each_append}
+use Rattle.infer_needs.proofs.Words.{every_type, types_both, each_append}
 use Rattle.infer_needs.proofs.Closed.{AreClosed, type_closed, item_closed}
 use Rattle.infer_needs.proofs.FitTerms.{type_same}
 use Rattle.infer_needs.proofs.NoPlaceholders.{HaveNoHole, GoalHasNoHole, GoalsHaveNoHole, args_hold_at, goal_holds_at, preds_have_none, IsWithoutHole, alias_has_none, fn_aliases_have_none, variant_aliases_have_none}
+use Rattle.infer_result.specs.Columns as column
 
 -- ---- goals at arguments
 
@@ -102,7 +103,7 @@ recorded_at (Some (Some u)) t e = ap (λ x. Some x) e
 
 module _ (raw : RawFacts) (law : IsLawful raw) (d : DefWithBodyId) (r : InferenceResult) (is : IsTableOf raw d r) where
   type_is_closed : (k : ℕ) (t : Ty) → slice_get r.type_of_expr k ≡ Some (Some t) → IsWritten (term t)
-  type_is_closed k t at = type_closed (scope_of raw d) t (is.typed.shape.closed.exprs k t at) (is.fit.exprs k t at)
+  type_is_closed k t at = type_closed (scope_of raw d) t (is.typed.shape.closed.each column.type_of_expr k t at) (is.fit.each column.type_of_expr k t at)
 
   of_type : (k : ℕ) (x : RawExpr) (o : Option Ty) → recorded r.type_of_expr k ≡ o → AreProvable (needs_of raw (Some x) o)
   of_type k x None at = tt
@@ -113,7 +114,7 @@ module _ (raw : RawFacts) (law : IsLawful raw) (d : DefWithBodyId) (r : Inferenc
   needs_provable k x = of_type k x (recorded r.type_of_expr k) refl
 
   item_is_closed : (k : ℕ) (t : Ty) → slice_get r.item_of_pat k ≡ Some (Some t) → IsWritten (term t)
-  item_is_closed k t at = type_closed (scope_of raw d) t (is.typed.shape.closed.items k t at) (is.fit.items k t at)
+  item_is_closed k t at = type_closed (scope_of raw d) t (is.typed.shape.closed.each column.item_of_pat k t at) (is.fit.each column.item_of_pat k t at)
 
   of_item : (k : ℕ) (o : Option Ty) → recorded r.item_of_pat k ≡ o → AreProvable (pat_needs_of raw o)
   of_item k None at = tt
@@ -141,23 +142,14 @@ module _ (raw : RawFacts) (law : IsLawful raw) (d : DefWithBodyId) (r : Inferenc
   -- each type fits, and in none is something left to be read, or a hole
   pub table_final : AllTypes (IsFinalType raw (scope_item raw d)) r
   table_final =
-      let closed = is.typed.shape.closed in
-      record {
-        exprs = λ k t at. is_final t (closed.exprs k t at) (is.fit.exprs k t at) (is.read.exprs k t at);
-        pats = λ k t at. is_final t (closed.pats k t at) (is.fit.pats k t at) (is.read.pats k t at);
-        bindings = λ k t at. is_final t (closed.bindings k t at) (is.fit.bindings k t at) (is.read.bindings k t at);
-        placeholders = λ k t at. is_final t (closed.placeholders k t at) (is.fit.placeholders k t at) (is.read.placeholders k t at);
-        items = λ k t at. is_final t (closed.items k t at) (is.fit.items k t at) (is.read.items k t at);
-        expected = λ k x at. is_final x.expected (closed.expected k x at) (is.fit.expected k x at) (is.read.expected k x at);
-        actual = λ k x at. is_final x.actual (closed.actual k x at) (is.fit.actual k x at) (is.read.actual k x at);
-        pat_expected = λ k x at. is_final x.expected (closed.pat_expected k x at) (is.fit.pat_expected k x at) (is.read.pat_expected k x at);
-        pat_actual = λ k x at. is_final x.actual (closed.pat_actual k x at) (is.fit.pat_actual k x at) (is.read.pat_actual k x at);
-        found = λ k e t at. is_final t (closed.found k e t at) (is.fit.found k e t at) (is.read.found k e t at);
-      }
+      let Fit : Ty → Type 0 = λ t. IsTrue (ty_fits (scope_of raw d) t) in
+      let Read : Ty → Type 0 = λ t. IsRead (term t) in
+      let closed_fit : AllTypes (λ t. IsClosed t × Fit t) r = types_both IsClosed Fit r is.typed.shape.closed is.fit in
+      every_type (λ t. (IsClosed t × Fit t) × Read t) (IsFinalType raw (scope_item raw d)) r (λ t h. is_final t h.0.0 h.0.1 h.1) (types_both (λ t. IsClosed t × Fit t) Read r closed_fit is.read)
 
 -- a table has as many places for items of patterns as its body has patterns
 pub as_many_items : (raw : RawFacts) (d : DefWithBodyId) (r : InferenceResult) (b : RawBody) → IsTableOf raw d r → body_of raw d ≡ Some b → length r.item_of_pat ≡ length b.pats
-as_many_items raw d r b h is = h.typed.shape.of_body.items ∙ ap (λ (x : RawBody). length x.pats) (same_Some h.body b (sym h.is_body ∙ is))
+as_many_items raw d r b h is = h.typed.shape.of_body.long column.item_of_pat ∙ ap (λ (x : RawBody). length x.pats) (same_Some h.body b (sym h.is_body ∙ is))
 
 -- ---- what is made of a recorded type
 

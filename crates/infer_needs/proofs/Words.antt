@@ -8,8 +8,9 @@ pub use Rattle.goal_prove.proofs.Aliases.{aliases_good}
 pub use Rattle.goal_prove.proofs.Children.{child_later}
 pub use Rattle.goal_prove.proofs.TypeTerms.{top_type}
 pub use Rattle.goal_prove.proofs.Typing.{goal_reads, no_bound, no_principal}
+pub use Rattle.infer_result.proofs.Columns.{every_type, types_beside, types_both}
 pub use Rattle.infer_result.proofs.Samples.Calling.{body, function, item, top_arg}
 pub use Rattle.infer_result.proofs.Samples.Constructors.{adt, adt_of, v, variant_of}
-pub use Rattle.infer_result.proofs.Samples.Small.{b, body_of, body_with, e, each_entry, each_found, facts_with, function_of, one_u8, only, p, plain, u8, u8_is_no_error, w}
+pub use Rattle.infer_result.proofs.Samples.Small.{b, body_of, body_with, e, all_types_by, facts_with, function_of, one_u8, only, p, plain, u8, u8_is_no_error, w, TypesHave}
 pub use Rattle.goal_prove.proofs.Words.{apply_hole, goal_holes, asked_itself}
 pub use Rattle.infer_result.proofs.InHand.{hand_same}

@@ -33,7 +33,7 @@ pub use Rattle.infer_goals.specs.Words.{HasHeads, IsHead, role_of, term_is, term
 pub use Rattle.infer_goals.specs.Words.{asked_of, kind_of, system, Answer, Sources}
 pub use Rattle.infer_goals.specs.Words.{AreDistinct, Has, args_at, goal_at, holes, own_params, type_at, BoundSays, IsListed, IsClosure, IsStated, IsSuper, env_preds, env_trait, preds_of_trait, preds_or_none, trait_holes, trait_preds, IsAnswer, ItemSources, asked_goal, assoc_rule, impl_args, impl_holes, impl_rules, rules_for, AreProofs, AreProofsOf, Holds, IsBuiltIn, IsClause, IsImplAt, IsSame, IsSource, IsUnshadowed, MayHaveSource, SaysItself, args_fill, filled_goal, IsTypeRead, TypeReads, IsSystemOf, fact, last_field_of, Proof, ProofSource}
 pub use Rattle.goal_prove.specs.Own.{AddsChildrenBut, AddsOneRoot, AddsProofs, IsChild, IsProofAt, IsProvedIf, IsGoodGoal, IsWritten, IsWrittenHead, AreDrawn, AreRightProofs, IsNamed, IsIn, IsTaken, TakesFrom, IsReadAt}
-pub use Rattle.infer_result.specs.Own.{alias_goal, alias_goals, alias_goals_by, alias_goals_from, fn_alias_goals, path_alias_goals, variant_alias_goals, CannotHold, MayHold, Opened, hole_by, hole_for, opened_goal, put_or, AllTypes, IsDerivation, GoalsHold, HasGap, HasNoneLeft, IsClash, IsNeeded, IsTrueClash, IsTrueGap, IsTrueUnproved, IsUnproved, NeedsHold, Saying, clashes, expr_preds, gap_says, item_args, item_path, needed_goals, needs_at, needs_of, node_needs, pat_needs_at, pat_needs_by, pat_needs_of, path_preds, scope_item, variant_preds, with_goals, HoldsPlaceholder, aliases_of, fn_aliases_by, Given, AreFound, GoalReads, HasEntry, IsAboutAlias, IsFound, IsListedAs, IsPartOf, NoneIsLeft, StaysOrIsListed, stays_at, HoldsNoHole, HoldsUnknown, IsProved, ObeysExpression, ObeysOrMismatch, At, HasTy, listed_gaps, recorded, IsTableOf, IsTyped, given, of_literal, AboutIsListed, AllWrittenAreListed, IsListedOnceRead, WrittenAreListed, args_term, HasCause, IsKnownAs, IsReadable, IsInHand, CanStand, ReadsAsNone, is_read_head}
+pub use Rattle.infer_result.specs.Own.{alias_goal, alias_goals, alias_goals_by, alias_goals_from, fn_alias_goals, path_alias_goals, variant_alias_goals, CannotHold, MayHold, Opened, hole_by, hole_for, opened_goal, put_or, AllTypes, IsDerivation, GoalsHold, HasGap, HasNoneLeft, IsClash, IsNeeded, IsTrueClash, IsTrueGap, IsTrueUnproved, IsUnproved, NeedsHold, Saying, clashes, expr_preds, gap_says, item_args, item_path, needed_goals, needs_at, needs_of, node_needs, pat_needs_at, pat_needs_by, pat_needs_of, path_preds, scope_item, variant_preds, with_goals, HoldsPlaceholder, aliases_of, fn_aliases_by, Given, AreFound, GoalReads, HasEntry, IsAboutAlias, IsFound, IsListedAs, IsPartOf, NoneIsLeft, StaysOrIsListed, stays_at, HoldsNoHole, HoldsUnknown, IsProved, ObeysExpression, ObeysOrMismatch, At, HasTy, listed_gaps, recorded, IsTableOf, IsTyped, given, of_literal, AboutIsListed, AllWrittenAreListed, IsListedOnceRead, WrittenAreListed, args_term, HasCause, IsKnownAs, IsReadable, IsInHand, CanStand, ReadsAsNone, is_read_head, AllIn, AllInDiagnostic, Column, Entry, col, entry_kind}
 pub use Rattle.infer_result.specs.declared.diagnostics.InferenceDiagnostic.{InferenceDiagnostic}
 pub use Rattle.infer_result.specs.declared.gaps.Gap.{Gap}
 pub use Rattle.infer_result.specs.declared.result.InferenceResult.{InferenceResult}

@@ -23,6 +23,7 @@ use Rattle.infer_pat.specs.Words.infer_result.declared.diagnostics.InferenceDiag
 use Rattle.hir_types.specs.declared.ty.Ty.TheVariants as ty
 use Rattle.infer_pat.specs.Words.infer_ctx.Context as context
 use Rattle.infer_pat.specs.Words.infer_ctx.Found as found
+use Rattle.infer_pat.specs.Words.infer_result.Columns as column
 
 -- ---- the number of parts
 
@@ -462,7 +463,7 @@ module _ (g : Given) (s : Schedule) (p : PatId) (v : VariantId) (ps : List PatId
                   parts = subst (λ us. PatsAtFields g r ps us) (begun_fields g s p v ps ss x old mid b a m) made;
                   counted = elim (begun_counted g s p v ps ss x old mid b a m).said [
                     | inl same ↦ inl same
-                    | inr said ↦ inr (all.extends.pat_diagnostics p _ (d.extends.pat_diagnostics p _ said))
+                    | inr said ↦ inr (all.extends.columns column.pat_diagnostics p.0 _ (d.extends.columns column.pat_diagnostics p.0 _ said))
                   ];
                   resolved = pat_named g.body r all.state.variants p v (inr (ps, b.is));
                 })

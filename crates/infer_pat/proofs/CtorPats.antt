@@ -1,8 +1,8 @@
 -- Patterns of constructors: the complaint about the number of parts, the loop over the parts, and paths.
 use Rattle.std.proofs.Common.{◌≡◌, Some, ◌<◌, ◌⊎◌, inl, inr, List, length, refl, sym, ap, subst, ◌∙◌, arith, Option, slice_get, ℕ, suc, [], ◌∷◌}
-use Rattle.infer_pat.specs.Words.{PatId, VariantId, Ty, RawVariant, Schedule, InferenceDiagnostic, HasPatDiagnostic, Given, PatIsAtOrMismatch, IsCtorPath, IsTruePatDiagnostic, InferenceResult, PatsAtFields, Found, Extends}
+use Rattle.infer_pat.specs.Words.{PatId, VariantId, Ty, RawVariant, Schedule, InferenceDiagnostic, HasPatDiagnostic, Given, PatIsAtOrMismatch, IsCtorPath, IsTruePatDiagnostic, InferenceResult, PatsAtFields, Found, Extends, IsCarriedType}
 use Rattle.infer_pat.specs.Words.infer_ctx.Found.{entered, with_pat_diagnostic}
-use Rattle.infer_pat.proofs.Words.{obeys_kept, pat_kept, diagnostic_kept, seen_as_kept, noted-keeps, noted-cases, noted-some, length-noted, pat_id, pat_ahead, pat_named}
+use Rattle.infer_pat.proofs.Words.{columns_written, long_with, types_with, obeys_kept, pat_kept, diagnostic_kept, seen_as_kept, noted-keeps, noted-cases, noted-some, length-noted, pat_id, pat_ahead, pat_named}
 use Rattle.infer_pat.specs.Own.{ComesToPat, IsCtorPatOf, PartsAreCounted, PatWalked, IsPathPatOf}
 use Rattle.infer_pat.proofs.PatDemands.{IsOpening, entered_opening, Demands}
 use Rattle.infer_pat.proofs.PatSteps.{enters_now, enters_done}
@@ -11,6 +11,7 @@ use Rattle.hir_types.specs.declared.ids.ExprOrPatId.TheVariants as node
 use Rattle.infer_pat.specs.Words.hir_raw.declared.raw.RawPat.TheVariants as pat
 use Rattle.infer_pat.specs.Words.hir_raw.declared.raw.RawPath.TheVariants as path
 use Rattle.infer_pat.specs.Words.infer_result.declared.diagnostics.InferenceDiagnostic.TheVariants as diagnostic
+use Rattle.infer_pat.specs.Words.infer_result.Columns as column
 
 only_some : {A : Type 0} {y z : A} → Some y ≡ Some z → y ≡ z
 only_some q = cc
@@ -25,19 +26,9 @@ module _ (g : Given) (s : Schedule) (p : PatId) (v : VariantId) (ps : List PatId
 
   told_extends : Extends old.result told.result
   told_extends = record {
-    exprs = λ e t i. i;
-    pats = λ q t i. i;
-    bindings = λ w t i. i;
-    modes = λ q m i. i;
-    mismatches = λ e m i. i;
-    pat_mismatches = λ q m i. i;
-    placeholders = λ k t i. i;
-    items = λ q t i. i;
+    columns = columns_written old.result column.pat_diagnostics _ (λ n d i. noted-keeps old.result.pat_diagnostics p.0 n complaint d i);
     diagnostics = λ e d i. inl i;
     seen = λ e h. record { position = h.position; entry = h.entry; found = h.found; is_node = h.is_node };
-    pat_diagnostics = λ q d i. noted-keeps old.result.pat_diagnostics p.0 q.0 complaint d i;
-    expr_variants = λ e w i. i;
-    pat_variants = λ q w i. i;
   }
 
   -- what is said of the pattern is this
@@ -70,8 +61,8 @@ module _ (g : Given) (s : Schedule) (p : PatId) (v : VariantId) (ps : List PatId
             kept = λ e i lo. refl;
             kept_pats = λ q i lo. refl;
             state = record {
-              of_body = assumption (length-noted old.result.pat_diagnostics p.0 complaint ∙ h.state.of_body.pat_diagnostics, h.state.of_body);
-              carried = assumption h.state.carried;
+              of_body = long_with g.body old.result column.pat_diagnostics _ (length-noted old.result.pat_diagnostics p.0 complaint ∙ h.state.of_body.long column.pat_diagnostics) h.state.of_body;
+              carried = types_with IsCarriedType old.result column.pat_diagnostics _ (λ n d i. tt) h.state.carried;
               modes = begun.state.modes;
               free_exprs = begun.state.free_exprs;
               free_pats = begun.state.free_pats;
@@ -103,7 +94,7 @@ module _ (g : Given) (s : Schedule) (p : PatId) (v : VariantId) (ps : List PatId
 
     told_has : HasPatDiagnostic told.result p complaint
     told_has =
-        let within : p.0 < length old.result.pat_diagnostics = rw h.state.of_body.pat_diagnostics h.within in
+        let within : p.0 < length old.result.pat_diagnostics = rw (h.state.of_body.long column.pat_diagnostics) h.within in
         let y = noted-some old.result.pat_diagnostics p.0 complaint within in
         elim (noted-cases old.result.pat_diagnostics p.0 p.0 complaint y.0 y.1) [
           | inl q ↦ subst (λ z. HasPatDiagnostic told.result p z) (same_complaint y.0 (h.state.pat_diagnostics p y.0 q)) y.1

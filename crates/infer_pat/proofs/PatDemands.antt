@@ -72,7 +72,7 @@ module _ (g : Given) (s : Schedule) (p : PatId) (own : Ty) (x : Option Ty) (old 
   fits same new e =
       let last : Found = with_pat_ty mid p own in
       let r : IsRecordable g s p own None None mid = recordable None (λ m i. absurd (cc)) in
-      let w : IsBoundBy mid last p own None None = record { exprs = refl; pats = refl; bindings = refl; modes = refl; mismatches = refl; diagnostics = refl; pat_mismatches = refl; pat_diagnostics = refl; expr_variants = refl; pat_variants = refl; placeholders = refl; items = refl; seen = refl; holes = refl; clock = refl } in
+      let w : IsBoundBy mid last p own None None = record { result = refl; holes = refl; clock = refl } in
       let has : PatTy last.result p own = has_type g s p own mid last None None r w in
       subst (λ c. Demands g s p own x old mid c) (sym e) (record {
         enters = enters_recorded g s p own mid last None None r w old h.here (λ m i. absurd (cc)) opening.enters;
@@ -95,7 +95,7 @@ module _ (g : Given) (s : Schedule) (p : PatId) (own : Ty) (x : Option Ty) (old 
       let y : Option TypeMismatch = Some (mismatch u own) in
       let there : new ≡ last = e ∙ ap (λ c. with_pat_ty c p own) f in
       let r : IsRecordable g s p own None y mid = recordable y (λ m j. subst (λ (z : TypeMismatch). IsCarriedType z.expected × IsCarriedType z.actual) (one_mismatch (mismatch u own) m j) (k, carried)) in
-      let w : IsBoundBy mid last p own None y = record { exprs = refl; pats = refl; bindings = refl; modes = refl; mismatches = refl; diagnostics = refl; pat_mismatches = refl; pat_diagnostics = refl; expr_variants = refl; pat_variants = refl; placeholders = refl; items = refl; seen = refl; holes = refl; clock = refl } in
+      let w : IsBoundBy mid last p own None y = record { result = refl; holes = refl; clock = refl } in
       let has : PatTy last.result p own = has_type g s p own mid last None y r w in
       let later : Extends mid.result last.result = extends g s p own mid last None y r w in
       let true : IsTruePatMismatch g last.result p (mismatch u own) = record {

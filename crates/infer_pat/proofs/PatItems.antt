@@ -2,10 +2,11 @@
 use Rattle.std.proofs.Common.{◌≡◌, refl, Option, Some, None, ℕ, ◌<◌, ◌≤◌, ◌≢◌, ◌⊎◌, length, arith, inl, inr, sym, ap, subst, ◌∙◌, slice_get}
 use Rattle.std.proofs.Math.ListN.{length-set}
 use Rattle.infer_pat.specs.Words.{PatId, Ty, Schedule, IsCarriedType, IsItemOfPat, Given, At, PatItem, Found, with_pat_item, Extends, IsFree, IsWalked, pat_start}
-use Rattle.infer_pat.proofs.Words.{extends_trans, obeys_kept, pat_kept, pat_at_kept, pat_truth_kept, misfit_kept, demand_kept, diagnostic_kept, seen_as_kept, At-set, At-set_cases, slice_get-set_same, slice_get-set_other, pat_id}
+use Rattle.infer_pat.proofs.Words.{columns_written, long_with, types_with, extends_trans, obeys_kept, pat_kept, pat_at_kept, pat_truth_kept, misfit_kept, demand_kept, diagnostic_kept, seen_as_kept, At-set, At-set_cases, slice_get-set_same, slice_get-set_other, pat_id}
 use Rattle.infer_pat.specs.Own.{IsPatPlaced, IsDemanded, PatIsDemanded, PartsAreCounted}
 use Rattle.infer_pat.proofs.PatDemands.{Demands}
 use Rattle.infer_pat.proofs.PatSteps.{open_walked}
+use Rattle.infer_pat.specs.Words.infer_result.Columns as column
 
 -- ---- what leaves the items alone
 
@@ -29,23 +30,13 @@ module _ (g : Given) (s : Schedule) (p : PatId) (t u : Ty) (x : Option Ty) (old 
   new = with_pat_item c p u
 
   long : p.0 < length c.result.item_of_pat
-  long = rw d.state.of_body.items within
+  long = rw (d.state.of_body.long column.item_of_pat) within
 
   extends : Extends c.result new.result
   extends = record {
-    exprs = λ e w i. i;
-    pats = λ q w i. i;
-    bindings = λ v w i. i;
-    modes = λ q m i. i;
-    mismatches = λ e m i. i;
-    pat_mismatches = λ q m i. i;
-    placeholders = λ k w i. i;
-    items = λ q w i. At-set c.result.item_of_pat p.0 q.0 u w free i;
+    columns = columns_written c.result column.item_of_pat _ (λ n w i. At-set c.result.item_of_pat p.0 n u w free i);
     diagnostics = λ e k i. inl i;
     seen = λ e k. record { position = k.position; entry = k.entry; found = k.found; is_node = k.is_node };
-    pat_diagnostics = λ q k i. i;
-    expr_variants = λ e v i. i;
-    pat_variants = λ q v i. i;
   }
 
   item_cases : (n : ℕ) (w : Ty) → At new.result.item_of_pat n w → At c.result.item_of_pat n w ⊎ ((n ≡ p.0) × (u ≡ w))
@@ -57,19 +48,11 @@ module _ (g : Given) (s : Schedule) (p : PatId) (t u : Ty) (x : Option Ty) (old 
 
   state : IsWalked g s new
   state = record {
-    of_body = assumption (length-set c.result.item_of_pat p.0 (Some u) ∙ d.state.of_body.items, d.state.of_body);
-    carried = record {
-      exprs = d.state.carried.exprs;
-      pats = d.state.carried.pats;
-      bindings = d.state.carried.bindings;
-      placeholders = d.state.carried.placeholders;
-      items = λ n w i. elim (item_cases n w i) [ inl q ↦ d.state.carried.items n w q | inr q ↦ subst (λ z. IsCarriedType z) q.1 carried ];
-      expected = d.state.carried.expected;
-      actual = d.state.carried.actual;
-      pat_expected = d.state.carried.pat_expected;
-      pat_actual = d.state.carried.pat_actual;
-      found = d.state.carried.found;
-    };
+    of_body = long_with g.body c.result column.item_of_pat _ (length-set c.result.item_of_pat p.0 (Some u) ∙ d.state.of_body.long column.item_of_pat) d.state.of_body;
+    carried = types_with IsCarriedType c.result column.item_of_pat _ (λ n w i. elim (item_cases n w i) [
+      | inl q ↦ d.state.carried.each column.item_of_pat n w q
+      | inr q ↦ subst (λ z. IsCarriedType z) q.1 carried
+    ]) d.state.carried;
     modes = d.state.modes;
     free_exprs = d.state.free_exprs;
     free_pats = d.state.free_pats;

@@ -3,13 +3,16 @@
 use Rattle.std.specs.Option.{option_and_then}
 use Rattle.std.proofs.Common.{Option, ◌≡◌, List, ◌∷◌, Some, None, slice_get, ℕ, ◌<◌, ◌≤◌, length, ◌⊎◌, inl, inr, ap, refl, sym, subst, ◌∙◌, arith, ◌≢◌}
 use Rattle.std.proofs.Math.ListN.{set, length-set}
-use Rattle.infer_pat.specs.Words.{PatId, Ty, Assignment, BindingId, ExprId, Schedule, Part, Node, Role, pat_part, binding_of, Binds, RawPat, RawBody, IsCarriedType, Given, OnlyPlaceholdersHaveTypes, Demand, IsBinder, IsOfBody, OnlyBindersHaveModes, OnlyCtorPatsHaveItems, At, BindingTy, PatTy, HasMode, HasPatMismatch, Seen, IsTrueDiagnostic, IsTruePatDiagnostic, InferenceDiagnostic, TypeMismatch, ObeysOrMismatch, PatRule, IsTruePatMismatch, IsMisfit, BindingMode, InferenceContext, Closes, found_under, expected_under, Found, RecordsVariants, noted, IsCarriedExpectation, IsWalked, IsSeenAs, IsFree, IsCarriedTable, expr_start, pat_start, Extends, Walks, Nothing, LieAhead, IsReady}
+use Rattle.infer_pat.specs.Words.{PatId, Ty, Assignment, BindingId, ExprId, Schedule, Part, Node, Role, pat_part, binding_of, Binds, RawPat, RawBody, IsCarriedType, Given, OnlyPlaceholdersHaveTypes, Demand, IsBinder, IsOfBody, OnlyBindersHaveModes, OnlyCtorPatsHaveItems, At, BindingTy, PatTy, HasMode, HasPatMismatch, Seen, InferenceResult, IsTrueDiagnostic, IsTruePatDiagnostic, InferenceDiagnostic, TypeMismatch, ObeysOrMismatch, PatRule, IsTruePatMismatch, IsMisfit, BindingMode, InferenceContext, Closes, found_under, expected_under, Found, RecordsVariants, noted, IsCarriedExpectation, IsWalked, IsSeenAs, IsFree, IsCarriedTable, expr_start, pat_start, Extends, Walks, Nothing, LieAhead, IsReady}
 use Rattle.infer_pat.specs.Words.hir_raw.declared.raw.RawPat.TheVariants as pat
 use Rattle.infer_pat.specs.Words.infer_result.Incoming.{Gives}
 use Rattle.infer_pat.specs.Words.infer_result.declared.modes.BindingMode.TheVariants as mode
 use Rattle.infer_pat.specs.Words.infer_ctx.Found.{entered}
-use Rattle.infer_pat.proofs.Words.{expected_carried, ahead_stands, pat_id, one_pat, expr_is_no_pat, binds_within, binding_id, same_or_not, lt_or_ge, own_set, slice_get-set_same, slice_get-set_other, At-set, At-set_cases, length-own_set, own_set-at, own_set-other, own_set-cases, noted-keeps, noted-cases, noted-some, length-noted, extends_refl, seen_as_entered, extends_trans, obeys_kept, pat_kept, pat_truth_kept, misfit_kept, demand_kept, diagnostic_kept, seen_as_kept}
+use Rattle.infer_pat.specs.Words.infer_ctx.Walks.{StaysIn}
+use Rattle.infer_pat.proofs.Words.{columns_are, expected_carried, ahead_stands, pat_id, one_pat, expr_is_no_pat, binds_within, binding_id, same_or_not, lt_or_ge, own_set, slice_get-set_same, slice_get-set_other, At-set, At-set_cases, length-own_set, own_set-at, own_set-other, own_set-cases, noted-keeps, noted-cases, noted-some, length-noted, extends_refl, seen_as_entered, extends_trans, obeys_kept, pat_kept, pat_truth_kept, misfit_kept, demand_kept, diagnostic_kept, seen_as_kept}
 use Rattle.infer_pat.specs.Own.{BeforePat, ComesToPat}
+use Rattle.infer_pat.specs.Words.infer_result.Columns.{Column, Entry, Entries, entry_kind, index, col, with_columns, IsIn, IsLong, AllIn}
+use Rattle.infer_pat.specs.Words.infer_result.Columns as column
 
 module _ (g : Given) (s : Schedule) (a : Assignment) (c : InferenceContext) (k : Closes a c) where
   pub before_pat_under : (p : PatId) (x : Option Ty) → BeforePat g s p x c → ComesToPat g s p (expected_under a x) (found_under a c)
@@ -224,21 +227,17 @@ abbrev pub maybe_noted : List (Option TypeMismatch) → ℕ → Option TypeMisma
 maybe_noted xs n None = xs
 maybe_noted xs n (Some m) = noted xs n m
 
--- the type of p and of what it binds, and a mismatch at p or none, are all that is new
+-- the columns once p has the type t, and what it binds too, and there is a mismatch at p or none
+abbrev pub bound_column : InferenceResult → PatId → Ty → Option BindingId → Option TypeMismatch → (c : Column) → Entries c
+bound_column r p t o y column.type_of_pat = set r.type_of_pat p.0 (Some t)
+bound_column r p t o y column.type_of_binding = binding_set r.type_of_binding o t
+bound_column r p t o y column.binding_modes = own_set r.binding_modes p.0 (mode_of o)
+bound_column r p t o y column.pat_mismatches = maybe_noted r.pat_mismatches p.0 y
+bound_column r p t o y c = col r c
+
+-- this is all that is new
 pub record IsBoundBy (old new : Found) (p : PatId) (t : Ty) (o : Option BindingId) (y : Option TypeMismatch) : Type 0 where
-  pub exprs : new.result.type_of_expr ≡ old.result.type_of_expr
-  pub pats : new.result.type_of_pat ≡ set old.result.type_of_pat p.0 (Some t)
-  pub bindings : new.result.type_of_binding ≡ binding_set old.result.type_of_binding o t
-  pub modes : new.result.binding_modes ≡ own_set old.result.binding_modes p.0 (mode_of o)
-  pub mismatches : new.result.expr_mismatches ≡ old.result.expr_mismatches
-  pub diagnostics : new.result.expr_diagnostics ≡ old.result.expr_diagnostics
-  pub pat_mismatches : new.result.pat_mismatches ≡ maybe_noted old.result.pat_mismatches p.0 y
-  pub pat_diagnostics : new.result.pat_diagnostics ≡ old.result.pat_diagnostics
-  pub expr_variants : new.result.expr_variants ≡ old.result.expr_variants
-  pub pat_variants : new.result.pat_variants ≡ old.result.pat_variants
-  pub items : new.result.item_of_pat ≡ old.result.item_of_pat
-  pub placeholders : new.result.type_of_placeholder ≡ old.result.type_of_placeholder
-  pub seen : new.result.seen ≡ old.result.seen
+  pub result : new.result ≡ with_columns old.result (bound_column old.result p t o y)
   pub holes : new.holes ≡ old.holes
   pub clock : new.clock ≡ old.clock
 
@@ -256,27 +255,33 @@ pub record IsRecordable (g : Given) (s : Schedule) (p : PatId) (t : Ty) (o : Opt
   pub free_binding : (v : BindingId) → o ≡ Some v → IsFree c.result.type_of_binding v.0
 
 module _ (g : Given) (s : Schedule) (p : PatId) (t : Ty) (old new : Found) (o : Option BindingId) (y : Option TypeMismatch) (h : IsRecordable g s p t o y old) (w : IsBoundBy old new p t o y) where
+  columns : (c : Column) → col new.result c ≡ bound_column old.result p t o y c
+  columns c = ap (λ r. col r c) w.result ∙ columns_are old.result (bound_column old.result p t o y) c
+
+  seen_is : new.result.seen ≡ old.result.seen
+  seen_is = ap (λ r. r.seen) w.result
+
   long : p.0 < length old.result.type_of_pat
-  long = rw h.state.of_body.pats h.within
+  long = rw (h.state.of_body.long column.type_of_pat) h.within
 
   pub has_type : PatTy new.result p t
-  has_type = rw w.pats (slice_get-set_same old.result.type_of_pat p.0 (Some t) long)
+  has_type = rw (columns column.type_of_pat) (slice_get-set_same old.result.type_of_pat p.0 (Some t) long)
 
   pub has_mode : (v : BindingId) → o ≡ Some v → HasMode new.result p mode.Move
   has_mode v i =
-      let k : p.0 < length old.result.binding_modes = rw h.state.of_body.modes h.within in
-      rw w.modes (own_set-at old.result.binding_modes p.0 (mode_of o) mode.Move k (ap (λ z. mode_of z) i))
+      let k : p.0 < length old.result.binding_modes = rw (h.state.of_body.long column.binding_modes) h.within in
+      rw (columns column.binding_modes) (own_set-at old.result.binding_modes p.0 (mode_of o) mode.Move k (ap (λ z. mode_of z) i))
 
   noted_there : (z : Option TypeMismatch) (m : TypeMismatch) → z ≡ Some m → (n : TypeMismatch) × At (maybe_noted old.result.pat_mismatches p.0 z) p.0 n
   noted_there None m i = absurd (cc)
-  noted_there (Some k) m i = (let l : p.0 < length old.result.pat_mismatches = rw h.state.of_body.pat_mismatches h.within in noted-some old.result.pat_mismatches p.0 k l)
+  noted_there (Some k) m i = (let l : p.0 < length old.result.pat_mismatches = rw (h.state.of_body.long column.pat_mismatches) h.within in noted-some old.result.pat_mismatches p.0 k l)
 
   pub has_mismatch : (m : TypeMismatch) → y ≡ Some m → HasPatMismatch new.result p
-  has_mismatch m i = subst (λ (l : List (Option TypeMismatch)). (n : TypeMismatch) × At l p.0 n) (sym w.pat_mismatches) (noted_there y m i)
+  has_mismatch m i = subst (λ (l : List (Option TypeMismatch)). (n : TypeMismatch) × At l p.0 n) (sym (columns column.pat_mismatches)) (noted_there y m i)
 
   -- what p binds
   bound_long : (v : BindingId) → o ≡ Some v → v.0 < length old.result.type_of_binding
-  bound_long v i = rw h.state.of_body.bindings (h.ready.law.binders p v (h.binds ∙ i))
+  bound_long v i = rw (h.state.of_body.long column.type_of_binding) (h.ready.law.binders p v (h.binds ∙ i))
 
   binding_kept : (z : Option BindingId) → o ≡ z → (n : ℕ) (u : Ty) → At old.result.type_of_binding n u → At (binding_set old.result.type_of_binding z t) n u
   binding_kept None i n u k = k
@@ -290,7 +295,7 @@ module _ (g : Given) (s : Schedule) (p : PatId) (t : Ty) (old new : Found) (o : 
       )
 
   pub has_binding : (v : BindingId) → o ≡ Some v → BindingTy new.result v t
-  has_binding v i = rw w.bindings (binding_has v o i refl)
+  has_binding v i = rw (columns column.type_of_binding) (binding_has v o i refl)
 
   binding_cases : (z : Option BindingId) → o ≡ z → (n : ℕ) (u : Ty) → At (binding_set old.result.type_of_binding z t) n u → At old.result.type_of_binding n u ⊎ (t ≡ u)
   binding_cases None i n u k = inl k
@@ -332,73 +337,56 @@ module _ (g : Given) (s : Schedule) (p : PatId) (t : Ty) (old new : Found) (o : 
   mismatch_long None = refl
   mismatch_long (Some k) = length-noted old.result.pat_mismatches p.0 k
 
+  modes_kept : (z : Option BindingId) → o ≡ z → (n : ℕ) (m : BindingMode) → At old.result.binding_modes n m → At (own_set old.result.binding_modes p.0 (mode_of z)) n m
+  modes_kept None i n m k = k
+  modes_kept (Some v) i n m k = At-set old.result.binding_modes p.0 n mode.Move m (h.free_mode v i) k
+
+  stays : (c : Column) (n : ℕ) (x : Entry c) → IsIn old.result c n x → StaysIn c (bound_column old.result p t o y c) n x
+  stays column.type_of_pat n u i = At-set old.result.type_of_pat p.0 n t u h.free_pat i
+  stays column.type_of_binding n u i = binding_kept o refl n u i
+  stays column.binding_modes n m i = modes_kept o refl n m i
+  stays column.pat_mismatches n m i = mismatch_kept y n m i
+  stays column.expr_diagnostics n d i = tt
+  stays c n x i = i
+
   pub extends : Extends old.result new.result
   extends = record {
-    exprs = λ e u i. rw w.exprs i;
-    pats = λ q u i. rw w.pats (At-set old.result.type_of_pat p.0 q.0 t u h.free_pat i);
-    bindings = λ v u i. rw w.bindings (binding_kept o refl v.0 u i);
-    modes = λ q m i. rw w.modes (modes_kept o refl q m i);
-    mismatches = λ e m i. rw w.mismatches i;
-    pat_mismatches = λ q m i. rw w.pat_mismatches (mismatch_kept y q.0 m i);
-    placeholders = λ k u i. rw w.placeholders i;
-    items = λ q u i. rw w.items i;
-    diagnostics = λ e d i. inl (rw w.diagnostics i);
-    seen = λ e i. record { position = i.position; entry = i.entry; found = rw w.seen i.found; is_node = i.is_node };
-    pat_diagnostics = λ q d i. rw w.pat_diagnostics i;
-    expr_variants = λ e v i. rw w.expr_variants i;
-    pat_variants = λ q v i. rw w.pat_variants i;
+    columns = λ c n x i. subst (λ xs. StaysIn c xs n x) (sym (columns c)) (stays c n x i);
+    diagnostics = λ e d i. inl (rw (columns column.expr_diagnostics) i);
+    seen = λ e i. record { position = i.position; entry = i.entry; found = rw seen_is i.found; is_node = i.is_node };
   }
-    where
-      modes_kept : (z : Option BindingId) → o ≡ z → (q : PatId) (m : BindingMode) → HasMode old.result q m → At (own_set old.result.binding_modes p.0 (mode_of z)) q.0 m
-      modes_kept None i q m k = k
-      modes_kept (Some v) i q m k = At-set old.result.binding_modes p.0 q.0 mode.Move m (h.free_mode v i) k
+
+  carried_in : (c : Column) (n : ℕ) (x : Entry c) → At (bound_column old.result p t o y c) n x → AllIn IsCarriedType (entry_kind c) x
+  carried_in column.type_of_pat n u i =
+      elim (At-set_cases old.result.type_of_pat p.0 n t u long i) [
+        | inl q ↦ h.state.carried.each column.type_of_pat n u q
+        | inr q ↦ subst (λ v. IsCarriedType v) q.1 h.carried
+      ]
+  carried_in column.type_of_binding n u i =
+      elim (binding_cases o refl n u i) [
+        | inl q ↦ h.state.carried.each column.type_of_binding n u q
+        | inr q ↦ subst (λ v. IsCarriedType v) q h.carried
+      ]
+  carried_in column.pat_mismatches n m i =
+      elim (mismatch_cases y n m i) [
+        | inl q ↦ h.state.carried.each column.pat_mismatches n m q
+        | inr q ↦ h.carried_mismatch m q.1
+      ]
+  carried_in column.binding_modes n m i = tt
+  carried_in c n x i = h.state.carried.each c n x i
 
   carried : IsCarriedTable new.result
-  carried =
-      let c = h.state.carried in
-      record {
-        exprs = λ n u i. c.exprs n u (rw w.exprs at i);
-        pats = λ n u i.
-            elim (At-set_cases old.result.type_of_pat p.0 n t u long (rw w.pats at i)) [
-              | inl q ↦ c.pats n u q
-              | inr q ↦ subst (λ v. IsCarriedType v) q.1 h.carried
-            ];
-        bindings = λ n u i.
-            elim (binding_cases o refl n u (rw w.bindings at i)) [
-              | inl q ↦ c.bindings n u q
-              | inr q ↦ subst (λ v. IsCarriedType v) q h.carried
-            ];
-        placeholders = λ n u i. c.placeholders n u (rw w.placeholders at i);
-        items = λ n u i. c.items n u (rw w.items at i);
-        found = λ n k u i. c.found n k u (rw w.diagnostics at i);
-        expected = λ n m i. c.expected n m (rw w.mismatches at i);
-        actual = λ n m i. c.actual n m (rw w.mismatches at i);
-        pat_expected = λ n m i.
-            elim (mismatch_cases y n m (rw w.pat_mismatches at i)) [
-              | inl q ↦ c.pat_expected n m q
-              | inr q ↦ (h.carried_mismatch m q.1).0
-            ];
-        pat_actual = λ n m i.
-            elim (mismatch_cases y n m (rw w.pat_mismatches at i)) [
-              | inl q ↦ c.pat_actual n m q
-              | inr q ↦ (h.carried_mismatch m q.1).1
-            ];
-      }
+  carried = record { each = λ c n x i. carried_in c n x (subst (λ xs. At xs n x) (columns c) i) }
+
+  long_in : (c : Column) → IsLong g.body (index c) (length (bound_column old.result p t o y c))
+  long_in column.type_of_pat = length-set old.result.type_of_pat p.0 (Some t) ∙ h.state.of_body.long column.type_of_pat
+  long_in column.type_of_binding = binding_long o ∙ h.state.of_body.long column.type_of_binding
+  long_in column.binding_modes = length-own_set old.result.binding_modes p.0 (mode_of o) ∙ h.state.of_body.long column.binding_modes
+  long_in column.pat_mismatches = mismatch_long y ∙ h.state.of_body.long column.pat_mismatches
+  long_in c = h.state.of_body.long c
 
   of_body : IsOfBody g.body new.result
-  of_body = record {
-    exprs = rw w.exprs h.state.of_body.exprs;
-    pats = rw (w.pats, length-set) h.state.of_body.pats;
-    bindings = ap (λ l. length l) w.bindings ∙ (binding_long o ∙ h.state.of_body.bindings);
-    items = rw w.items h.state.of_body.items;
-    modes = ap (λ l. length l) w.modes ∙ (length-own_set old.result.binding_modes p.0 (mode_of o) ∙ h.state.of_body.modes);
-    mismatches = rw w.mismatches h.state.of_body.mismatches;
-    diagnostics = rw w.diagnostics h.state.of_body.diagnostics;
-    pat_diagnostics = rw w.pat_diagnostics h.state.of_body.pat_diagnostics;
-    expr_variants = rw w.expr_variants h.state.of_body.expr_variants;
-    pat_variants = rw w.pat_variants h.state.of_body.pat_variants;
-    pat_mismatches = ap (λ l. length l) w.pat_mismatches ∙ (mismatch_long y ∙ h.state.of_body.pat_mismatches);
-  }
+  of_body = record { long = λ c. subst (λ xs. IsLong g.body (index c) (length xs)) (sym (columns c)) (long_in c) }
 
   bound : (q : PatId) (v : BindingId) → Binds g.body q v → pat_start g.body s q < new.clock → (u : Ty) × BindingTy new.result v u
   bound q v i hi =
@@ -406,13 +394,13 @@ module _ (g : Given) (s : Schedule) (p : PatId) (t : Ty) (old new : Found) (o : 
         | inl is ↦
             (let own : Binds g.body p v = subst (λ z. Binds g.body z v) is i in
             (t, has_binding v (sym h.binds ∙ own)))
-        | inr other ↦ (let k = h.state.bound q v i other (omega (arith, w.clock)) in (k.0, extends.bindings v k.0 k.1))
+        | inr other ↦ (let k = h.state.bound q v i other (omega (arith, w.clock)) in (k.0, extends.columns column.type_of_binding v.0 k.0 k.1))
       ]
 
   new_modes : OnlyBindersHaveModes g.body new.result
   new_modes q m i =
-      let long_modes : p.0 < length old.result.binding_modes = rw h.state.of_body.modes h.within in
-      elim (own_set-cases old.result.binding_modes p.0 q.0 (mode_of o) m long_modes (rw w.modes at i)) [
+      let long_modes : p.0 < length old.result.binding_modes = rw (h.state.of_body.long column.binding_modes) h.within in
+      elim (own_set-cases old.result.binding_modes p.0 q.0 (mode_of o) m long_modes (rw (columns column.binding_modes) at i)) [
         | inl z ↦ h.state.modes q m z
         | inr z ↦ subst (λ a. IsBinder g.body a) (sym (pat_id q p z.0)) (own_binder o refl z.1)
       ]
@@ -427,20 +415,20 @@ module _ (g : Given) (s : Schedule) (p : PatId) (t : Ty) (old new : Found) (o : 
     of_body = of_body;
     carried = carried;
     modes = new_modes;
-    diagnostics = λ e d i. diagnostic_kept g old.result new.result extends e d (h.state.diagnostics e d (rw w.diagnostics at i));
-    pat_diagnostics = λ q d i. h.state.pat_diagnostics q d (rw w.pat_diagnostics at i);
-    variants = record { exprs = w.expr_variants ∙ h.state.variants.exprs; pats = w.pat_variants ∙ h.state.variants.pats };
-    items = λ q u i. h.state.items q u (rw w.items at i);
-    free_items = λ q i lo. rw w.items (h.state.free_items q i (omega (arith, w.clock)));
-    placeholders = λ k u i. h.state.placeholders k u (rw w.placeholders at i);
-    seen = λ i z there. seen_as_kept g old new extends (λ e d k. rw w.diagnostics k) w.holes z (h.state.seen i z (rw w.seen at there));
-    free_exprs = λ e i lo. rw w.exprs (h.state.free_exprs e i (omega (arith, w.clock)));
+    diagnostics = λ e d i. diagnostic_kept g old.result new.result extends e d (h.state.diagnostics e d (rw (columns column.expr_diagnostics) at i));
+    pat_diagnostics = λ q d i. h.state.pat_diagnostics q d (rw (columns column.pat_diagnostics) at i);
+    variants = record { exprs = columns column.expr_variants ∙ h.state.variants.exprs; pats = columns column.pat_variants ∙ h.state.variants.pats };
+    items = λ q u i. h.state.items q u (rw (columns column.item_of_pat) at i);
+    free_items = λ q i lo. rw (columns column.item_of_pat) (h.state.free_items q i (omega (arith, w.clock)));
+    placeholders = λ k u i. h.state.placeholders k u (rw (columns column.type_of_placeholder) at i);
+    seen = λ i z there. seen_as_kept g old new extends (λ e d k. rw (columns column.expr_diagnostics) k) w.holes z (h.state.seen i z (rw seen_is at there));
+    free_exprs = λ e i lo. rw (columns column.type_of_expr) (h.state.free_exprs e i (omega (arith, w.clock)));
     free_pats = λ q i lo.
-        rw w.pats (slice_get-set_other old.result.type_of_pat p.0 q.0 (Some t) (other_number q lo) ∙ h.state.free_pats q i (omega (arith, w.clock)));
+        rw (columns column.type_of_pat) (slice_get-set_other old.result.type_of_pat p.0 q.0 (Some t) (other_number q lo) ∙ h.state.free_pats q i (omega (arith, w.clock)));
     free_modes = λ q i lo.
-        rw w.modes (own_set-other old.result.binding_modes p.0 q.0 (mode_of o) (other_number q lo) ∙ h.state.free_modes q i (omega (arith, w.clock)));
+        rw (columns column.binding_modes) (own_set-other old.result.binding_modes p.0 q.0 (mode_of o) (other_number q lo) ∙ h.state.free_modes q i (omega (arith, w.clock)));
     free_bindings = λ q v i lo.
-        rw w.bindings (binding_other q v i (later q lo) o refl ∙ h.state.free_bindings q v i (omega (arith, w.clock)));
+        rw (columns column.type_of_binding) (binding_other q v i (later q lo) o refl ∙ h.state.free_bindings q v i (omega (arith, w.clock)));
     bound = bound;
   }
     where
@@ -452,20 +440,20 @@ module _ (g : Given) (s : Schedule) (p : PatId) (t : Ty) (old new : Found) (o : 
   enters_recorded first here true k = record {
     clock = omega (arith, k.clock, w.clock);
     extends = extends_trans first.result old.result new.result k.extends extends;
-    kept = λ e i lo. ap (λ l. slice_get l e.0) w.exprs ∙ k.kept e i lo;
+    kept = λ e i lo. ap (λ l. slice_get l e.0) (columns column.type_of_expr) ∙ k.kept e i lo;
     kept_pats = λ q i lo.
         let ne : q.0 ≢ p.0 = (λ is. (let same : pat_start g.body s q ≡ pat_start g.body s p = ap (λ z. pat_start g.body s z) (pat_id q p is) in omega (arith, same, here, lo))) in
-        ap (λ l. slice_get l q.0) w.pats ∙ (slice_get-set_other old.result.type_of_pat p.0 q.0 (Some t) ne ∙ k.kept_pats q i lo);
+        ap (λ l. slice_get l q.0) (columns column.type_of_pat) ∙ (slice_get-set_other old.result.type_of_pat p.0 q.0 (Some t) ne ∙ k.kept_pats q i lo);
     state = open_walked g s p new recorded_walked;
     made = λ e i lo hi. obeys_kept g old.result new.result extends e (k.made e i lo (omega (arith, w.clock)));
     pats_made = λ q i other lo hi. pat_kept g old.result new.result extends q (slice_get g.body.pats q.0) (k.pats_made q i other lo (omega (arith, w.clock)));
     truths = λ e m i.
-        elim (k.truths e m (rw w.mismatches at i)) [
+        elim (k.truths e m (rw (columns column.expr_mismatches) at i)) [
           | inl q ↦ inl q
           | inr q ↦ inr (misfit_kept g old.result new.result extends e m q.0, demand_kept g old.result new.result extends e m.expected q.1)
         ];
     pat_truths = λ q m i.
-        elim (mismatch_cases y q.0 m (rw w.pat_mismatches at i)) [
+        elim (mismatch_cases y q.0 m (rw (columns column.pat_mismatches) at i)) [
           | inl z ↦ elim (k.pat_truths q m z) [ inl a ↦ inl a | inr a ↦ inr (pat_truth_kept g old.result new.result extends q m a) ]
           | inr z ↦ inr (subst (λ a. IsTruePatMismatch g new.result a m) (sym (pat_id q p z.0)) (true m z.1))
         ];

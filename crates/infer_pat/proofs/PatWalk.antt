@@ -9,6 +9,7 @@ use Rattle.infer_pat.specs.Words.infer_ctx.Found as found
 use Rattle.infer_pat.specs.Own.{BeforePat, PatDone, IsGivenOrNew, ComesToPat, PatWalked, IsLitPatOf}
 use Rattle.infer_pat.proofs.PatSteps.{before_pat_under}
 use Rattle.infer_pat.proofs.Pats.{wild_done, bind_done, IsFitted, lit_before, lit_done}
+use Rattle.infer_pat.specs.Words.infer_result.Columns as column
 
 -- what comes in, under an assignment
 pub given_under : (a : Assignment) (x : Option Ty) (t : Ty) → ((u : Ty) → x ≡ Some u → t ≡ u) → (u : Ty) → expected_under a x ≡ Some u → folded a t ≡ u
@@ -38,11 +39,17 @@ module _ (g : Given) (s : Schedule) (p : PatId) (x : Option Ty) (t : Ty) (old mi
   typed_told : IsTold g old → IsTold g mid
   typed_told told = told_same g (context.entered old) mid d.result d.stays d.grew (told_entered g old told)
 
-  -- there is a place for the type of what it binds
+  -- there is a place for its type, for its mode, and for the type of what it binds
+  pub pat_within : p.0 < length mid.result.type_of_pat
+  pat_within = rw (of_body.long column.type_of_pat) h.within
+
+  pub mode_within : p.0 < length mid.result.binding_modes
+  mode_within = rw (of_body.long column.binding_modes) h.within
+
   pub bind_within : (v : BindingId) (sub : Option PatId) → slice_get g.body.pats p.0 ≡ Some (pat.Bind v sub) → v.0 < length mid.result.type_of_binding
   bind_within v sub is =
       let own : Binds g.body p v = ap (λ o. option_and_then binding_of o) is in
-      rw of_body.bindings (h.ready.law.binders p v own)
+      rw (of_body.long column.type_of_binding) (h.ready.law.binders p v own)
 
   pub wild_walked : slice_get g.body.pats p.0 ≡ Some pat.Wild → PatDone g s p x old (context.with_pat_ty mid p t)
   wild_walked is =

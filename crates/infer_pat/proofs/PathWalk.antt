@@ -13,11 +13,12 @@ use Rattle.infer_pat.specs.Words.hir_raw.declared.raw.RawCtor.TheVariants as cto
 use Rattle.infer_pat.proofs.Words.{grew_itself, ctor_type_of_unit, ctor_type_of_tuple, expr_ahead, expr_named, rule_of, leaf_done, carried_expr, same_found, closes_earlier, At-unclosed, At-closed, fine_closed, fn_def_closed, adt_closed, told_same, within_under, local_tells, function_tells, ctor_tells, every_from, fine_fn_def, fine_adt, tuple_signature, holed}
 use Rattle.infer_pat.specs.Own.{IsPathType, NamesTyped, PathDone, AreFreshArgs}
 use Rattle.infer_pat.proofs.PatHoles.{no_part_yet, one_part_more, new_one}
+use Rattle.infer_pat.specs.Words.infer_result.Columns as column
 
 path_rule : (g : Given) (r q : InferenceResult) (e : ExprId) (p : RawPath) (t : Ty) → Extends r q → HasTy q e t → ((v : VariantId) → p ≡ path.Ctor v → ExprVariant r e v) → IsPathType g r p t → PathRule g q e p
-path_rule g r q e (path.Local v) t x has named k = (t, has, x.bindings v t k)
+path_rule g r q e (path.Local v) t x has named k = (t, has, x.columns column.type_of_binding v.0 t k)
 path_rule g r q e (path.Function f) t x has named (ts, is, count) = (ts, subst (λ u. HasTy q e u) is has, count)
-path_rule g r q e (path.Ctor v) t x has named k = (t, has, k, x.expr_variants e v (named v refl))
+path_rule g r q e (path.Ctor v) t x has named k = (t, has, k, x.columns column.expr_variants e.0 v (named v refl))
 
 pub path_done : (g : Given) (s : Schedule) (e : ExprId) (x : Option Ty) (p : RawPath) (t : Ty) (c : Found) → IsInside g s e x c → slice_get g.body.exprs e.0 ≡ Some (expr.Path p) → IsCarriedType t → IsPathType g c.result p t → KindWalked g s e x t c c
 path_done g s e x p t c h is carried k =
@@ -74,7 +75,7 @@ local_path g v t c h s told k = record {
   grew = grew_itself c.goals.table;
   stays = stays_itself c.goals;
   sound = s;
-  fine = s.fine.bindings v.0 t k;
+  fine = s.fine.each column.type_of_binding v.0 t k;
   tells = λ e is. local_tells g e v t is (told v t k);
   each = λ a q. At-closed (folded a) c.result.type_of_binding v.0 t k;
 }

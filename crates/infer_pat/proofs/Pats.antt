@@ -8,6 +8,7 @@ use Rattle.infer_pat.specs.Words.infer_ctx.Found.{entered, bound_by}
 use Rattle.infer_pat.proofs.Words.{bind_has_no_parts, pat_ahead, expr_before, incoming_kept, noted_walks, noted_has, owed_paid}
 use Rattle.infer_pat.specs.Own.{IsPatPlaced, ComesToPat, PatWalked, IsLitPatOf}
 use Rattle.infer_pat.proofs.PatSteps.{enters_now, enters_done, IsBoundBy, IsRecordable, has_type, has_mode, has_binding, recorded_walked, enters_recorded, pat_entered, own_free, enters_more, open_walked}
+use Rattle.infer_pat.specs.Words.infer_result.Columns as column
 
 -- what holds of a pattern of this kind
 pub pat_rule_of : (g : Given) (r : InferenceResult) (p : PatId) (k : RawPat) → slice_get g.body.pats p.0 ≡ Some k → PatRule g r p (Some k) → PatRule g r p (slice_get g.body.pats p.0)
@@ -50,14 +51,14 @@ module _ (g : Given) (s : Schedule) (p : PatId) (x : Option Ty) (t : Ty) (old : 
   pub wild_done : slice_get g.body.pats p.0 ≡ Some pat.Wild → PatWalked g s p x old (with_pat_ty (entered old) p t)
   wild_done is =
       let new : Found = with_pat_ty (entered old) p t in
-      let w : IsBoundBy (entered old) new p t None None = record { exprs = refl; pats = refl; bindings = refl; modes = refl; mismatches = refl; diagnostics = refl; pat_mismatches = refl; pat_diagnostics = refl; expr_variants = refl; pat_variants = refl; placeholders = refl; items = refl; seen = refl; holes = refl; clock = refl } in
+      let w : IsBoundBy (entered old) new p t None None = record { result = refl; holes = refl; clock = refl } in
       let binds : option_and_then binding_of (slice_get g.body.pats p.0) ≡ None = ap (λ o. option_and_then binding_of o) is in
       done new None binds w pat.Wild is refl (t, has_type g s p t (entered old) new None None (recordable None binds) w)
 
   pub bind_done : (v : BindingId) (sub : Option PatId) → slice_get g.body.pats p.0 ≡ Some (pat.Bind v sub) → PatWalked g s p x old (bound_by (entered old) p v t)
   bind_done v sub is =
       let new : Found = bound_by (entered old) p v t in
-      let w : IsBoundBy (entered old) new p t (Some v) None = record { exprs = refl; pats = refl; bindings = refl; modes = refl; mismatches = refl; diagnostics = refl; pat_mismatches = refl; pat_diagnostics = refl; expr_variants = refl; pat_variants = refl; placeholders = refl; items = refl; seen = refl; holes = refl; clock = refl } in
+      let w : IsBoundBy (entered old) new p t (Some v) None = record { result = refl; holes = refl; clock = refl } in
       let binds : option_and_then binding_of (slice_get g.body.pats p.0) ≡ Some v = ap (λ o. option_and_then binding_of o) is in
       let r : IsRecordable g s p t (Some v) None (entered old) = recordable (Some v) binds in
       done new (Some v) binds w (pat.Bind v sub) is (bind_has_no_parts g.body h.ready.law.carried p v sub is) (
@@ -102,7 +103,7 @@ module _ (g : Given) (s : Schedule) (p : PatId) (e : ExprId) (x : Option Ty) (ol
     paid = owed_paid g s e x (entered old) mid demand d.walks
 
     carried : IsCarriedType t
-    carried = d.walks.state.carried.exprs e.0 t d.type_is
+    carried = d.walks.state.carried.each column.type_of_expr e.0 t d.type_is
 
     noted : (u : Ty) → x ≡ Some u → IsCarriedType u → (u ≡ t → ⊥) → Walks g s Nothing (entered old) (with_mismatch mid e (mismatch u t))
     noted u i k differ =
@@ -127,7 +128,7 @@ module _ (g : Given) (s : Schedule) (p : PatId) (e : ExprId) (x : Option Ty) (ol
           placed = λ v j. (let same : u ≡ v = cc in inl (f.0 ∙ same));
         })
     fitted (Some u) i k last (false, f) =
-        let long : e.0 < length mid.result.expr_mismatches = rw d.walks.state.of_body.mismatches lit_before.within in
+        let long : e.0 < length mid.result.expr_mismatches = rw (d.walks.state.of_body.long column.expr_mismatches) lit_before.within in
         subst (λ c. Fits c) (sym f.1) (record {
           walks = noted u i k f.0;
           clock = d.clock;
@@ -161,7 +162,7 @@ module _ (g : Given) (s : Schedule) (p : PatId) (e : ExprId) (x : Option Ty) (ol
     lit_recorded last f =
         let new : Found = with_pat_ty last p t in
         let r : IsRecordable g s p t None None last = recordable_lit last f in
-        let w : IsBoundBy last new p t None None = record { exprs = refl; pats = refl; bindings = refl; modes = refl; mismatches = refl; diagnostics = refl; pat_mismatches = refl; pat_diagnostics = refl; expr_variants = refl; pat_variants = refl; placeholders = refl; items = refl; seen = refl; holes = refl; clock = refl } in
+        let w : IsBoundBy last new p t None None = record { result = refl; holes = refl; clock = refl } in
         let has : PatTy new.result p t = has_type g s p t last new None None r w in
         record {
           walks =

@@ -15,6 +15,7 @@ use Rattle.hir_types.specs.declared.ty.Ty.TheVariants as ty
 use Rattle.infer_pat.specs.Words.hir_raw.declared.raw.RawPat.TheVariants as pat
 use Rattle.infer_pat.specs.Words.infer_ctx.Context as context
 use Rattle.infer_pat.specs.Words.infer_ctx.Found as found
+use Rattle.infer_pat.specs.Words.infer_result.Columns as column
 
 -- the tuple of ts is asked of what comes into the pattern p, of which ps are the parts
 pub record TuplePatBegun (g : Given) (s : Schedule) (p : PatId) (ps : List PatId) (ts : List Ty) (x : Option Ty) (old mid : InferenceContext) : Type 0 where
@@ -98,7 +99,7 @@ module _ (g : Given) (s : Schedule) (p : PatId) (ps : List PatId) (ts : List Ty)
     demands_at a l = begun_demands g s p ps ts x old mid b a (closes_before g a mid c h.walk.follows l)
 
     has_tuple : (a : Assignment) → Closes a c → PatTy (found_under a c).result p (ty.Tuple (map (folded a) ts))
-    has_tuple a l = (h.walk.each a l).walks.extends.pats p (ty.Tuple (map (folded a) ts)) (demands_at a l).type_is
+    has_tuple a l = (h.walk.each a l).walks.extends.columns column.type_of_pat p.0 (ty.Tuple (map (folded a) ts)) (demands_at a l).type_is
 
     module _ (q : PatId) (t : Ty) (is : q ≡ get_or ps i q) (type_at : slice_get ts i ≡ Some t) (k : i < length ps) where
       type_under : (a : Assignment) → slice_get (map (folded a) ts) i ≡ Some (folded a t)

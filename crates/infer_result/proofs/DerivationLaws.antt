@@ -5,10 +5,11 @@ use Rattle.infer_result.specs.Words.{ExprId, DefWithBodyId, RawStmt, RawArm, Raw
 use Rattle.infer_result.specs.Words.hir_raw.declared.raw.RawStmt.TheVariants as stmt
 use Rattle.infer_result.specs.Words.hir_raw.declared.raw.RawExpr.TheVariants as expr
 use Rattle.infer_result.specs.Own.{InferenceResult, HasMismatch, AnyMismatch, WasSeen, MaybeMismatch, AllTypes, IsKnown, StmtHasMismatch, StmtsHaveMismatch, GuardsHaveMismatch, arm_exprs, ExcusedAs, Given, ObeysExpression, branches_of, aliases_of, IsTyped, IsTableOf, given, given_by, HasNoComplaint, IsDerivation, NeedsHold}
+use Rattle.infer_result.specs.Columns as column
 
 module _ (g : Given) (t : InferenceResult) (h : IsTyped g t) (known : AllTypes IsKnown t) (clean : HasNoComplaint t) where
   no_mismatch : (e : ExprId) → HasMismatch t e → ⊥
-  no_mismatch e (x, at) = clean.mismatches e.0 x at
+  no_mismatch e (x, at) = clean.complaints column.expr_mismatches tt e.0 x at
 
   none_of : (es : List ExprId) → AnyMismatch t es → ⊥
   none_of [] m = m
@@ -37,7 +38,7 @@ module _ (g : Given) (t : InferenceResult) (h : IsTyped g t) (known : AllTypes I
   not_seen : (e : ExprId) → WasSeen t e → ⊥
   not_seen e w =
       let x = h.complaints.seen w.position w.entry w.found in
-      clean.diagnostics x.call.0 _ (h.complaints.said w.position w.entry w.found x.call x.called x.args x.type x.is_node x.is_call x.has (known.exprs x.called.0 x.type x.has))
+      clean.complaints column.expr_diagnostics tt x.call.0 _ (h.complaints.said w.position w.entry w.found x.call x.called x.args x.type x.is_node x.is_call x.has (known.each column.type_of_expr x.called.0 x.type x.has))
 
   not_excused : (n : ExprId) (o : Option RawExpr) → ExcusedAs t n o → ⊥
   not_excused n (Some (expr.Block label stmts last)) (inl m) = no_mismatch n m
@@ -47,7 +48,7 @@ module _ (g : Given) (t : InferenceResult) (h : IsTyped g t) (known : AllTypes I
   not_excused n (Some (expr.If c first other)) (inr m) = none_of (branches_of n first other) m
   not_excused n (Some (expr.Match e arms)) (inl m) = no_guards arms m
   not_excused n (Some (expr.Match e arms)) (inr m) = none_of (arm_exprs arms) m
-  not_excused n (Some (expr.Call f args)) (inl (d, at)) = clean.diagnostics n.0 d at
+  not_excused n (Some (expr.Call f args)) (inl (d, at)) = clean.complaints column.expr_diagnostics tt n.0 d at
   not_excused n (Some (expr.Call f args)) (inr w) = not_seen n w
   not_excused n _ m = m
 

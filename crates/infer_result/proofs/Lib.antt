@@ -1,4 +1,5 @@
 pub mod AliasGoals
+pub mod Columns
 pub mod Consequences
 pub mod DerivationLaws
 pub mod InHand

@@ -7,7 +7,7 @@ use Rattle.hir_types.specs.declared.ids.ExprOrPatId.TheVariants as node
 use Rattle.hir_types.specs.declared.ty.Ty.TheVariants as ty
 use Rattle.infer_result.specs.Words.hir_raw.declared.raw.RawPat.TheVariants as pat
 use Rattle.infer_result.specs.Words.hir_raw.declared.raw.RawPath.TheVariants as path
-use Rattle.infer_result.specs.Own.{InferenceResult, PatTy, PatItem, Given, StandsAt, declared, PatIsAtOrMismatch, IsVariantAt, IsCtorAt, adt_at, fields_at, GivesComponent, AllPatsAt, GivesField, IsItemOf, IsPatOf, PatsAtFields, CtorPatRule, GivesPart, Gives, PatRule, ObeysPattern, diagnostic_under, table_under, WholeObeys, IsClosedType}
+use Rattle.infer_result.specs.Own.{InferenceResult, PatTy, PatItem, Given, StandsAt, declared, PatIsAtOrMismatch, IsVariantAt, IsCtorAt, adt_at, fields_at, GivesComponent, AllPatsAt, GivesField, IsItemOf, IsPatOf, PatsAtFields, CtorPatRule, GivesPart, Gives, PatRule, ObeysPattern, table_under, WholeObeys, IsClosedType}
 use Rattle.infer_result.proofs.Derived.{one_at, one_item, tuple_parts, adt_no_tuple}
 use Rattle.infer_result.proofs.Parts.{PartStands, comes_from}
 use Rattle.infer_result.proofs.Unchanged.{instances_under, fields_unchanged}
@@ -63,7 +63,7 @@ module _ (g : Given) (law : IsLawful g.scope.facts) (a : Assignment) (t : Infere
     hidden = map (folded a) h.hidden;
     is = pat_of_under p v h.variant h.types h.hidden h.is;
     parts = subst (λ ss. PatsAtFields g (table_under a t) ps ss) (fields_under v h.variant h.types h.hidden h.is.is_variant) (pats_at_under ps (fields_at g h.variant (length h.types) (h.types ++ h.hidden)) h.parts);
-    counted = elim h.counted [ inl k ↦ inl k | inr k ↦ inr (At-under (diagnostic_under a) t.pat_diagnostics p.0 _ k) ];
+    counted = h.counted;
     resolved = h.resolved;
   }
   kind_under p (Some (pat.Path (path.Ctor v))) (s, h, k, r) = (folded a s, pat_type_under a t p s (folded a s) h refl, ctor_path_under a g v s k, r)

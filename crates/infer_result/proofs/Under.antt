@@ -7,8 +7,9 @@ use Rattle.hir_types.specs.declared.ids.CallableDefId.TheVariants as callable
 use Rattle.hir_types.specs.declared.ty.IntegerTy.TheVariants.{Int, Uint}
 use Rattle.hir_types.specs.declared.ty.Ty.TheVariants as ty
 use Rattle.infer_result.specs.Words.hir_raw.declared.raw.RawCtor.TheVariants as ctor
-use Rattle.infer_result.specs.Own.{InferenceResult, TypeMismatch, InferenceDiagnostic, At, HasTy, PatTy, PlaceholderTy, HasMismatch, AnyMismatch, HasPatMismatch, WasSeen, Given, let_types, hole_type, declared, AreRecorded, IsVariantAt, IsCtorAt, each_under, mismatch_under, diagnostic_under, table_under, IsStable}
+use Rattle.infer_result.specs.Own.{InferenceResult, TypeMismatch, InferenceDiagnostic, At, HasTy, PatTy, PlaceholderTy, HasMismatch, AnyMismatch, HasPatMismatch, WasSeen, Given, let_types, hole_type, declared, AreRecorded, IsVariantAt, IsCtorAt, Column, EntryKind, EntryOf, entry_kind, col, with_columns, each_under, mismatch_under, diagnostic_under, entries_under, column_under, table_under, IsStable}
 use Rattle.infer_result.specs.declared.diagnostics.InferenceDiagnostic.TheVariants as diagnostic
+use Rattle.infer_result.specs.Columns as column
 
 -- ---- lists under a function
 
@@ -89,27 +90,18 @@ diagnostic_twice r s (diagnostic.MismatchedArgCount n expected found) = refl
 diagnostic_twice r s (diagnostic.MismatchedTupleStructPatArgCount n expected found) = refl
 diagnostic_twice r s (diagnostic.ExpectedFunction n found) = ap (diagnostic.ExpectedFunction n) (folded_twice r s found)
 
+entries_twice : (r s : Assignment) (k : EntryKind) (xs : List (Option (EntryOf k))) → entries_under r k (entries_under s k xs) ≡ entries_under (composed r s) k xs
+entries_twice r s column.a_type xs = each_twice (folded r) (folded s) (folded (composed r s)) (folded_twice r s) xs
+entries_twice r s column.a_mismatch xs = each_twice (mismatch_under r) (mismatch_under s) (mismatch_under (composed r s)) (mismatch_twice r s) xs
+entries_twice r s column.a_diagnostic xs = each_twice (diagnostic_under r) (diagnostic_under s) (diagnostic_under (composed r s)) (diagnostic_twice r s) xs
+entries_twice r s _ xs = refl
+
+column_twice : (r s : Assignment) (t : InferenceResult) (c : Column) → column_under r (table_under s t) c ≡ column_under (composed r s) t c
+column_twice r s t column.type_of_expr = entries_twice r s column.a_type t.type_of_expr
+column_twice r s t c = entries_twice r s (entry_kind c) (col t c)
+
 table_twice : (r s : Assignment) (t : InferenceResult) → table_under r (table_under s t) ≡ table_under (composed r s) t
-table_twice r s t = λ i. record t {
-  type_of_expr = types t.type_of_expr i;
-  type_of_pat = types t.type_of_pat i;
-  type_of_binding = types t.type_of_binding i;
-  item_of_pat = types t.item_of_pat i;
-  type_of_placeholder = types t.type_of_placeholder i;
-  expr_mismatches = mismatches t.expr_mismatches i;
-  expr_diagnostics = diagnostics t.expr_diagnostics i;
-  pat_mismatches = mismatches t.pat_mismatches i;
-  pat_diagnostics = diagnostics t.pat_diagnostics i;
-}
-  where
-    types : (xs : List (Option Ty)) → each_under (folded r) (each_under (folded s) xs) ≡ each_under (folded (composed r s)) xs
-    types = each_twice (folded r) (folded s) (folded (composed r s)) (folded_twice r s)
-
-    mismatches : (xs : List (Option TypeMismatch)) → each_under (mismatch_under r) (each_under (mismatch_under s) xs) ≡ each_under (mismatch_under (composed r s)) xs
-    mismatches = each_twice (mismatch_under r) (mismatch_under s) (mismatch_under (composed r s)) (mismatch_twice r s)
-
-    diagnostics : (xs : List (Option InferenceDiagnostic)) → each_under (diagnostic_under r) (each_under (diagnostic_under s) xs) ≡ each_under (diagnostic_under (composed r s)) xs
-    diagnostics = each_twice (diagnostic_under r) (diagnostic_under s) (diagnostic_under (composed r s)) (diagnostic_twice r s)
+table_twice r s t = λ i. with_columns t (λ c. column_twice r s t c i)
 
 -- so it is enough that what holds of a table holds of it under each assignment
 pub stable_where : (Holds : InferenceResult → Type 0) → ((a : Assignment) (t : InferenceResult) → Holds t → Holds (table_under a t)) → IsStable Holds

@@ -5,25 +5,14 @@ use Rattle.infer_result.specs.Words.hir_raw.declared.raw.RawExpr.TheVariants as 
 use Rattle.infer_result.specs.Words.hir_raw.declared.raw.RawPath.TheVariants as path
 use Rattle.infer_result.specs.Words.hir_raw.declared.raw.RawPat.TheVariants as pat
 use Rattle.infer_result.specs.declared.result.InferenceResult.{InferenceResult}
-use Rattle.infer_result.specs.declared.result.TypeMismatch.{TypeMismatch}
 use Rattle.infer_result.specs.declared.result.Seen.{Seen}
-use Rattle.infer_result.specs.declared.diagnostics.InferenceDiagnostic.TheVariants as diagnostic
 use Rattle.infer_result.specs.declared.modes.BindingMode.{BindingMode}
-use Rattle.infer_result.specs.Table.{At, HasTy, PatTy, PatItem, BindingTy, HasMode, ExprVariant, PatVariant}
+use Rattle.infer_result.specs.Table.{HasTy, PatTy, PatItem, BindingTy, HasMode, ExprVariant, PatVariant}
+use Rattle.infer_result.specs.Columns.{Column, Entry, entry_kind, index, col, IsIn, IsLong, AllIn}
 
--- the lists have an entry for each node and binding, and no more
+-- the columns have an entry for each node and binding, and no more
 pub record IsOfBody (b : RawBody) (r : InferenceResult) : Type 0 where
-  pub exprs : length r.type_of_expr ≡ length b.exprs
-  pub pats : length r.type_of_pat ≡ length b.pats
-  pub bindings : length r.type_of_binding ≡ length b.bindings
-  pub items : length r.item_of_pat ≡ length b.pats
-  pub modes : length r.binding_modes ≡ length b.pats
-  pub mismatches : length r.expr_mismatches ≡ length b.exprs
-  pub diagnostics : length r.expr_diagnostics ≡ length b.exprs
-  pub pat_mismatches : length r.pat_mismatches ≡ length b.pats
-  pub pat_diagnostics : length r.pat_diagnostics ≡ length b.pats
-  pub expr_variants : length r.expr_variants ≡ length b.exprs
-  pub pat_variants : length r.pat_variants ≡ length b.pats
+  pub long : (c : Column) → IsLong b (index c) (length (col r c))
 
 -- each expression, pattern and binding has a type
 pub record IsTotal (b : RawBody) (r : InferenceResult) : Type 0 where
@@ -70,16 +59,7 @@ OnlyCtorPatsHaveItems raw b r = (p : PatId) (t : Ty) → PatItem r p t → IsIte
 
 -- each type of the table has a property, but for those that failed look-ups saw
 pub record AllTypes (P : Ty → Type 0) (r : InferenceResult) : Type 0 where
-  pub exprs : (n : ℕ) (t : Ty) → At r.type_of_expr n t → P t
-  pub pats : (n : ℕ) (t : Ty) → At r.type_of_pat n t → P t
-  pub bindings : (n : ℕ) (t : Ty) → At r.type_of_binding n t → P t
-  pub placeholders : (k : ℕ) (t : Ty) → At r.type_of_placeholder k t → P t
-  pub items : (n : ℕ) (t : Ty) → At r.item_of_pat n t → P t
-  pub expected : (n : ℕ) (x : TypeMismatch) → At r.expr_mismatches n x → P x.expected
-  pub actual : (n : ℕ) (x : TypeMismatch) → At r.expr_mismatches n x → P x.actual
-  pub pat_expected : (n : ℕ) (x : TypeMismatch) → At r.pat_mismatches n x → P x.expected
-  pub pat_actual : (n : ℕ) (x : TypeMismatch) → At r.pat_mismatches n x → P x.actual
-  pub found : (n : ℕ) (c : ExprId) (t : Ty) → At r.expr_diagnostics n (diagnostic.ExpectedFunction c t) → P t
+  pub each : (c : Column) (n : ℕ) (x : Entry c) → IsIn r c n x → AllIn P (entry_kind c) x
 
 -- each type that a failed look-up saw has a property
 pub record AllSeen (P : Ty → Type 0) (r : InferenceResult) : Type 0 where

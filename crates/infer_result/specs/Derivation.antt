@@ -4,9 +4,8 @@ use Rattle.infer_result.specs.Words.{ExprId, PatId, BindingId, CallableDefId, De
 use Rattle.hir_types.specs.declared.ty.Ty.TheVariants as ty
 use Rattle.infer_result.specs.Words.hir_raw.declared.raw.RawExpr.TheVariants as expr
 use Rattle.infer_result.specs.declared.result.InferenceResult.{InferenceResult}
-use Rattle.infer_result.specs.declared.result.TypeMismatch.{TypeMismatch}
-use Rattle.infer_result.specs.declared.diagnostics.InferenceDiagnostic.{InferenceDiagnostic}
-use Rattle.infer_result.specs.Table.{At, HasTy, PatTy, BindingTy}
+use Rattle.infer_result.specs.Table.{HasTy, PatTy, BindingTy}
+use Rattle.infer_result.specs.Columns.{Column, Entry, entry_kind, IsIn, AreComplaints}
 use Rattle.infer_result.specs.Closed.{IsTotal, AllTypes}
 use Rattle.infer_result.specs.TypesFit.{TypesFit}
 use Rattle.infer_result.specs.Unknown.{IsKnown}
@@ -18,10 +17,7 @@ use Rattle.infer_result.specs.Needs.{HasGap, NeedsHold}
 
 -- no complaint stands in the table
 pub record HasNoComplaint (r : InferenceResult) : Type 0 where
-  pub mismatches : (n : ℕ) (m : TypeMismatch) → At r.expr_mismatches n m → ⊥
-  pub diagnostics : (n : ℕ) (d : InferenceDiagnostic) → At r.expr_diagnostics n d → ⊥
-  pub pat_mismatches : (n : ℕ) (m : TypeMismatch) → At r.pat_mismatches n m → ⊥
-  pub pat_diagnostics : (n : ℕ) (d : InferenceDiagnostic) → At r.pat_diagnostics n d → ⊥
+  pub complaints : (c : Column) → AreComplaints (entry_kind c) → (n : ℕ) (x : Entry c) → IsIn r c n x → ⊥
   pub gaps : (n : ExprOrPatId) (x : Gap) → HasGap r n x → ⊥
 
 -- The table is one of the definition's body, with a type for each node and binding. No hole and no

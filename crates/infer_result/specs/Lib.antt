@@ -1,4 +1,6 @@
 pub mod Table
+pub mod Columns
+pub mod Owed
 pub mod Closed
 pub mod Places
 pub mod Placing

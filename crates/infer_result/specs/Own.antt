@@ -2,6 +2,7 @@
 pub use Rattle.infer_result.specs.AliasNeeds.{alias_goal, alias_goals, alias_goals_by, alias_goals_from, fn_alias_goals, none_for_aliases, path_alias_goals, variant_alias_goals}
 pub use Rattle.infer_result.specs.CannotHold.{CannotHold, MayHold, Opened, hole_by, hole_for, opened_goal, put_or, HasCause, IsReadable}
 pub use Rattle.infer_result.specs.Closed.{AllSeen, AllTypes, IsBinder, IsClosedTable, IsItemOfPat, IsOfBody, IsTotal, IsVariantPat, NamesVariant, OnlyBindersHaveModes, OnlyCtorPatsHaveItems, OnlyNamedVariants}
+pub use Rattle.infer_result.specs.Columns.{AllIn, AllInDiagnostic, AreComplaints, Column, Entries, Entry, EntryKind, EntryOf, Index, IsIn, IsLong, col, column_under, count_of, diagnostic_under, each_under, empty_table, entries_under, entry_kind, entry_under, index, mismatch_under, no_entries, table_of, with_columns}
 pub use Rattle.infer_result.specs.Demands.{Asks, AsksOf, Demand, IsAsked}
 pub use Rattle.infer_result.specs.Derivation.{HasNoComplaint, IsCalled, IsDerivation, IsPlainDerivation, IsPlainItem}
 pub use Rattle.infer_result.specs.Excused.{BodyIsExcused, ExcusedAs}
@@ -30,7 +31,7 @@ pub use Rattle.infer_result.specs.Proved.{HoldsNoHole, HoldsUnknown, IsProved}
 pub use Rattle.infer_result.specs.Report.{adt_own_count, adt_text, arg_text, args_text, binding_line, callable_text, complaint_count, complaints, const_text, def_line, diagnostic_line, expr_line, float_text, fn_own_count, gap_line, implements_text, int_text, joined, label_text, line, lines_from, mismatch_line, mode_text, own_args, own_count, pat_line, projection_text, ptr_text, ref_text, report, safety_text, separator, text_arg, text_bound, text_step, text_trait, tuple_text, ty_text, type_text, uint_text, variant_own_count, variant_text}
 unfoldable pub use Rattle.infer_result.specs.Report.{counts_text, diagnostic_text, gap_text, goal_text, mismatch_head, node_text, type_field}
 pub use Rattle.infer_result.specs.Rules.{BodyObeys, BodyObeysOrMismatch, ObeysExpression, ObeysOrMismatch, ObeysPattern, PatRule, Rule}
-pub use Rattle.infer_result.specs.Stable.{HasClosedTypes, IsClosedType, IsStable, NodeRulesAreStable, RulesAreStable, WholeObeys, diagnostic_under, each_under, mismatch_under, table_under}
+pub use Rattle.infer_result.specs.Stable.{HasClosedTypes, IsClosedType, IsStable, NodeRulesAreStable, RulesAreStable, WholeObeys, table_under}
 pub use Rattle.infer_result.specs.Table.{AnyDiagnostic, AnyMismatch, At, BindingTy, ExprVariant, HasDiagnostic, HasMismatch, HasMode, HasPatDiagnostic, HasPatMismatch, HasTy, MaybeMismatch, MismatchAt, PatItem, PatTy, PatVariant, PlaceholderTy, WasSeen, gaps_at, listed_gaps, mismatch, node_type, node_variant, recorded}
 pub use Rattle.infer_result.specs.Truth.Diagnostics.{IsTrueDiagnostic, IsTruePatDiagnostic}
 pub use Rattle.infer_result.specs.Truth.Mismatch.{EndsInUnit, IsTrueMismatch, IsTruePatMismatch, SaysItsType}

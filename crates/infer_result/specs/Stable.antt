@@ -1,48 +1,19 @@
 -- Node rules are stable: what obeys its rule obeys it too where types stand in the place of more holes.
-use Rattle.std.specs.Prelude.{ℕ, ◌≡◌, ◌<◌, List, length, map, slice_get, Option, Some}
-use Rattle.std.specs.Option.{option_map}
+use Rattle.std.specs.Prelude.{ℕ, ◌≡◌, ◌<◌, List, length, slice_get, Option, Some}
 use Rattle.infer_result.specs.Words.{ExprId, PatId, DefWithBodyId, Ty, Assignment, folded, composed, RawBody, RawFacts, body_of, Role, inner}
 use Rattle.hir_types.specs.declared.ids.ExprOrPatId.TheVariants as node
 use Rattle.infer_result.specs.declared.result.InferenceResult.{InferenceResult}
-use Rattle.infer_result.specs.declared.result.TypeMismatch.{TypeMismatch}
-use Rattle.infer_result.specs.declared.diagnostics.InferenceDiagnostic.{InferenceDiagnostic}
-use Rattle.infer_result.specs.declared.diagnostics.InferenceDiagnostic.TheVariants as diagnostic
-use Rattle.infer_result.specs.Table.{mismatch}
+use Rattle.infer_result.specs.Columns.{with_columns, column_under}
 use Rattle.infer_result.specs.Places.{Given, StandsAt}
 use Rattle.infer_result.specs.Rules.{ObeysOrMismatch, ObeysExpression, BodyObeysOrMismatch, BodyObeys, PatRule, ObeysPattern}
 use Rattle.infer_result.specs.Typed.{given_by}
 
 -- ---- a table under an assignment
 
--- the same list of what is recorded, each entry under the function
-abbrev pub each_under : {A : Type 0} → (A → A) → List (Option A) → List (Option A)
-each_under f xs = map (option_map f) xs
-
--- both types under the assignment
-abbrev pub mismatch_under : Assignment → TypeMismatch → TypeMismatch
-mismatch_under a m = mismatch (folded a m.expected) (folded a m.actual)
-
--- of a complaint that what is called is no function, the type of that
-abbrev pub diagnostic_under : Assignment → InferenceDiagnostic → InferenceDiagnostic
-diagnostic_under a (diagnostic.MismatchedArgCount n expected found) = diagnostic.MismatchedArgCount n expected found
-diagnostic_under a (diagnostic.MismatchedTupleStructPatArgCount n expected found) =
-    diagnostic.MismatchedTupleStructPatArgCount n expected found
-diagnostic_under a (diagnostic.ExpectedFunction n found) = diagnostic.ExpectedFunction n (folded a found)
-
 -- The table with each of its types under the assignment, those of complaints too. Modes and variants stay, and so do proofs and
 -- gaps, and what failed look-ups saw, since that is kept as it was when they failed.
 abbrev pub table_under : Assignment → InferenceResult → InferenceResult
-table_under a r = record r {
-  type_of_expr = each_under (folded a) r.type_of_expr;
-  type_of_pat = each_under (folded a) r.type_of_pat;
-  type_of_binding = each_under (folded a) r.type_of_binding;
-  type_of_placeholder = each_under (folded a) r.type_of_placeholder;
-  item_of_pat = each_under (folded a) r.item_of_pat;
-  expr_mismatches = each_under (mismatch_under a) r.expr_mismatches;
-  expr_diagnostics = each_under (diagnostic_under a) r.expr_diagnostics;
-  pat_mismatches = each_under (mismatch_under a) r.pat_mismatches;
-  pat_diagnostics = each_under (diagnostic_under a) r.pat_diagnostics;
-}
+table_under a r = with_columns r (column_under a r)
 
 -- ---- stable
 

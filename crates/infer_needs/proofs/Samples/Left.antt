@@ -1,11 +1,11 @@
 -- What is left of associated types in the types of tables, over the facts of `Impls`: `<u8 as Tr>::Out` may be left where the table says what it is.
 use Rattle.std.proofs.Common.{ℕ, suc, ◌≡◌, inl, inr, List, [], ◌∷◌, map, refl, sym, ap, ap₂, subst, ◌∙◌, true≢false, Some}
 use Rattle.hir_types.specs.declared.head.Head.TheVariants as head
-use Rattle.infer_needs.specs.Words.{TypeAliasId, GenericArg, Ty, Term, hole, leaf, pair, chain, type_part, term, arg_term, term_bool, term_uint, term_projection, term_associated_type, arg_term_type, RawLiteral, type_args, Fill, alias_at, staying, Aliases, ReadsAs, MayRead, Asked, Rule, System, implements, projects, only, Each, OneOf, Verdicts, Gives, GivesNone, answers, asked_goal, TypeReads, IsSystemOf, InferenceResult, HasEntry, IsPartOf, stays_at, NoneIsLeft, StaysOrIsListed, HoldsUnknown, HasNoneLeft, At}
+use Rattle.infer_needs.specs.Words.{TypeAliasId, GenericArg, Ty, Term, hole, leaf, pair, chain, type_part, term, arg_term, term_bool, term_uint, term_projection, term_associated_type, arg_term_type, RawLiteral, type_args, Fill, alias_at, staying, Aliases, ReadsAs, MayRead, Asked, Rule, System, implements, projects, only, Each, OneOf, Verdicts, Gives, GivesNone, answers, asked_goal, TypeReads, IsSystemOf, InferenceResult, Column, entry_kind, col, HasEntry, IsPartOf, stays_at, NoneIsLeft, StaysOrIsListed, HoldsUnknown, HasNoneLeft, At}
 use Rattle.hir_types.specs.declared.ty.Ty.TheVariants as ty
 use Rattle.hir_types.specs.declared.ty.UintTy.TheVariants as uint
 use Rattle.infer_needs.specs.Words.goal_answers.Reading.{Role}
-use Rattle.infer_needs.proofs.Words.{MayReadBy, role_read, read_reads, u8, each_entry, each_found}
+use Rattle.infer_needs.proofs.Words.{MayReadBy, role_read, read_reads, u8, TypesHave, all_types_by}
 use Rattle.hir_types.specs.declared.goal.Goal.TheVariants as goal
 use Rattle.infer_needs.proofs.ReadsYes.{reads_one}
 use Rattle.infer_needs.proofs.Samples.Impls.{tr, out, facts, own, own_body, u8_term, bool_term, char_term, w_term, param, implemented, found_as, all_said, no_clauses, rules_are}
@@ -13,6 +13,7 @@ use Rattle.infer_needs.proofs.Samples.Sources.{IsBare, bare_read}
 use Rattle.infer_needs.proofs.Samples.AliasProofs.{out_asks}
 use Rattle.infer_needs.proofs.Samples.Needed.{given, table_of, sources, are_sources}
 use Rattle.infer_needs.proofs.Samples.Tables.{entry, out_known, no_bool}
+use Rattle.infer_result.specs.Columns as column
 
 -- ---- the associated type, as it is written and as it stays
 
@@ -115,7 +116,7 @@ pub left_over : (l : RawLiteral) (r : InferenceResult) (n : ℕ) → At r.type_o
 left_over l r n is none h =
     let xs = type_args (u8 ∷ []) in
     let part : IsPartOf (stays_at out xs) (term stays) = subst (IsPartOf (stays_at out xs)) (sym (term_associated_type out xs)) (inl refl) in
-    not_listed h.system h.of_item r.projections none (h.left.exprs n stays is out xs part)
+    not_listed h.system h.of_item r.projections none (h.left.each column.type_of_expr n stays is out xs part)
 
 -- ---- taken
 
@@ -155,23 +156,10 @@ none_left k xs part =
       ]
     ]
 
+right_left : (c : Column) → TypesHave (NoneIsLeft sources 8 (entry ∷ [])) (entry_kind c) (col right c)
+right_left column.type_of_expr = (none_left, tt)
+right_left _ = tt
+
 -- where the table says that it is `bool`
 pub listed : (l : RawLiteral) → HasNoneLeft own_body (given l) right
-listed l =
-    let P : Ty → Type 0 = NoneIsLeft sources 8 (entry ∷ []) in
-    record {
-      system = sources;
-      of_item = are_sources;
-      left = record {
-        exprs = each_entry P right.type_of_expr (none_left, tt);
-        pats = each_entry P right.type_of_pat tt;
-        bindings = each_entry P right.type_of_binding tt;
-        placeholders = each_entry P right.type_of_placeholder tt;
-        items = each_entry P right.item_of_pat tt;
-        expected = each_entry (λ x. P x.expected) right.expr_mismatches tt;
-        actual = each_entry (λ x. P x.actual) right.expr_mismatches tt;
-        pat_expected = each_entry (λ x. P x.expected) right.pat_mismatches tt;
-        pat_actual = each_entry (λ x. P x.actual) right.pat_mismatches tt;
-        found = each_found P right.expr_diagnostics tt;
-      };
-    }
+listed l = record { system = sources; of_item = are_sources; left = all_types_by (NoneIsLeft sources 8 (entry ∷ [])) right right_left }

@@ -1,5 +1,5 @@
 -- `fn f() -> u8 { id(1u8) }` where `fn id<T>(x: T) -> T`: the call has the output at the type of the argument.
-use Rattle.std.proofs.Common.{ℕ, ◌≡◌, inl, inr, List, [], ◌∷◌, refl, sym, ap, subst, ◌∙◌, arith, Option, Some, None}
+use Rattle.std.proofs.Common.{ℕ, ◌≡◌, inl, inr, List, [], ◌∷◌, refl, sym, ap, subst, ◌∙◌, arith, Option, Some, None, length}
 use Rattle.hir_types.specs.declared.ids.CallableDefId.TheVariants as callable
 use Rattle.infer_result.specs.Words.{Ty, RawType, RawFn, erased, IsClosed, arg_as_type, with_params, replaced_param, carried_type_arg, carried_integer, filled_within, written_type, fn_signature, type_args, at_args}
 use Rattle.hir_types.specs.declared.ty.Ty.TheVariants as ty
@@ -7,10 +7,11 @@ use Rattle.hir_types.specs.declared.ty.UintTy.TheVariants as uint
 use Rattle.hir_types.specs.declared.ty.IntegerTy.TheVariants as integer
 use Rattle.infer_result.specs.Words.hir_raw.declared.raw.RawType.TheVariants as type
 use Rattle.infer_result.specs.Words.hir_raw.declared.raw.RawParam.TheVariants as parameter
-use Rattle.infer_result.specs.Own.{InferenceResult, TypeMismatch, InferenceDiagnostic, NamesVariant, IsVariantPat, HasTy, mismatch, Given, Demand, ObeysOrMismatch, IsTruePatMismatch, IsTrueDiagnostic, IsTruePatDiagnostic, IsMisfit, IsMade, IsTyped}
+use Rattle.infer_result.specs.Own.{empty_table, Column, entry_kind, index, col, IsLong, InferenceResult, TypeMismatch, InferenceDiagnostic, NamesVariant, IsVariantPat, HasTy, mismatch, Given, Demand, ObeysOrMismatch, IsTruePatMismatch, IsTrueDiagnostic, IsTruePatDiagnostic, IsMisfit, IsMade, IsTyped}
+use Rattle.infer_result.specs.Columns as column
 use Rattle.infer_result.specs.declared.diagnostics.InferenceDiagnostic.TheVariants as diagnostic
 use Rattle.infer_result.proofs.Derived.{typed_by_schedule}
-use Rattle.infer_result.proofs.Samples.Small.{e, w, u8, one_u8, function_of, each_below, only, each_entry, each_found, closed_u8, u8_is_no_bool, u8_differs_bool, none_placed, no_pat_items}
+use Rattle.infer_result.proofs.Samples.Small.{e, w, u8, one_u8, function_of, each_below, only, each_entry, TypesHave, all_types_by, closed_u8, u8_is_no_bool, u8_differs_bool, none_placed, no_pat_items}
 use Rattle.infer_result.proofs.Samples.Calling.{function, calling, schedule, is_schedule, item, closed_item, top_arg, obeyed, unseen, counted}
 
 abbrev pub types : List RawType
@@ -32,25 +33,10 @@ at_type s = ap (at_args (s ∷ [])) written ∙ (replaced_param (with_params (ty
 
 -- the types that the callee stands at, and the type of the call
 abbrev table_of : List Ty → Ty → List (Option TypeMismatch) → List (Option InferenceDiagnostic) → InferenceResult
-table_of ts s mismatches diagnostics = record {
+table_of ts s mismatches diagnostics = record (empty_table given.body) {
   type_of_expr = Some (item ts) ∷ Some u8 ∷ Some s ∷ Some u8 ∷ [];
-  type_of_pat = [];
-  item_of_pat = [];
-  type_of_binding = [];
-  type_of_placeholder = [];
-  binding_modes = [];
   expr_mismatches = mismatches;
   expr_diagnostics = diagnostics;
-  pat_mismatches = [];
-  pat_diagnostics = [];
-  expr_variants = None ∷ None ∷ None ∷ None ∷ [];
-  pat_variants = [];
-  seen = [];
-  proofs = [];
-  projections = [];
-  expr_gaps = [];
-  pat_gaps = [];
-  general = None;
 }
 
 abbrev no_mismatch : List (Option TypeMismatch)
@@ -74,22 +60,19 @@ call_obeys = inl (record {
 closed_callee : IsClosed (item (u8 ∷ []))
 closed_callee = closed_item (u8 ∷ []) (rw (carried_type_arg u8 ∙ carried_integer (integer.Uint uint.U8)) refl)
 
+right_long : (c : Column) → IsLong given.body (index c) (length (col right c))
+right_long column.type_of_placeholder = tt
+right_long _ = refl
+
+right_closed : (c : Column) → TypesHave IsClosed (entry_kind c) (col right c)
+right_closed column.type_of_expr = (closed_callee, (closed_u8, (closed_u8, (closed_u8, tt))))
+right_closed _ = tt
+
 right_made : IsMade given right
 right_made = record {
   shape = record {
-    of_body = record { exprs = refl; pats = refl; bindings = refl; items = refl; modes = refl; mismatches = refl; diagnostics = refl; pat_mismatches = refl; pat_diagnostics = refl; expr_variants = refl; pat_variants = refl };
-    closed = record {
-      exprs = each_entry IsClosed right.type_of_expr (closed_callee, (closed_u8, (closed_u8, (closed_u8, tt))));
-      pats = λ n s h. absurd (cc);
-      bindings = λ n s h. absurd (cc);
-      placeholders = λ k s at. absurd (cc);
-      items = λ n s h. absurd (cc);
-      expected = each_entry (λ x. IsClosed x.expected) right.expr_mismatches tt;
-      actual = each_entry (λ x. IsClosed x.actual) right.expr_mismatches tt;
-      pat_expected = each_entry (λ x. IsClosed x.expected) right.pat_mismatches tt;
-      pat_actual = each_entry (λ x. IsClosed x.actual) right.pat_mismatches tt;
-      found = each_found IsClosed right.expr_diagnostics tt;
-    };
+    of_body = record { long = right_long };
+    closed = all_types_by IsClosed right right_closed;
     modes = λ x m at. absurd (cc);
     placeholders = none_placed given right refl;
     variants = record {

@@ -1,6 +1,6 @@
 -- `fn f() -> u8 { match Some(1u8) { Some(x) => x, None => 0u8 } }` where `enum Maybe<T> { None, Some(T) }`: a path and a call of a
 -- constructor, and patterns of both.
-use Rattle.std.proofs.Common.{ℕ, ◌+◌, ◌<◌, ◌≡◌, inl, inr, List, [], ◌∷◌, map, refl, sym, ap, subst, ◌∙◌, arith, Option, Some, None, slice_get}
+use Rattle.std.proofs.Common.{ℕ, ◌+◌, ◌<◌, ◌≡◌, inl, inr, List, [], ◌∷◌, map, refl, sym, ap, subst, ◌∙◌, arith, Option, Some, None, slice_get, length}
 use Rattle.std.specs.Prelude.{codes}
 use Rattle.infer_result.specs.Words.{AdtId, VariantId, TypeRefId, Ty, RawType, RawParam, RawAdtKind, RawCtor, RawField, RawVariant, RawAdt, RawBody, Schedule, Same, erased, IsClosed, param_at, filled_within, written_type, Scope, types_scope, Signature, type_args, at_args, own_adt, field_types, own_adt_at, signature_of, subpattern, the_body, inner, IsSchedule, start, end, after, Fits, parts}
 use Rattle.hir_types.specs.declared.ids.CallableDefId.TheVariants as callable
@@ -18,10 +18,11 @@ use Rattle.infer_result.specs.Words.hir_raw.declared.raw.RawPath.TheVariants as 
 use Rattle.infer_result.specs.Words.hir_raw.declared.raw.RawExpr.TheVariants as expr
 use Rattle.infer_result.specs.Words.hir_raw.declared.raw.RawPat.TheVariants as pat
 use Rattle.infer_result.proofs.Words.{has_hole_adt, has_hole_fn_def}
-use Rattle.infer_result.specs.Own.{InferenceResult, TypeMismatch, HasTy, BindingTy, WasSeen, mismatch, Given, IsVariantAt, IsCtorAt, IsCallee, ArgsRule, IsPatOf, Demand, at_or_mismatch, ObeysOrMismatch, PatRule, IsTruePatMismatch, IsTrueDiagnostic, IsTruePatDiagnostic, IsBinder, NamesVariant, IsVariantPat, IsMisfit, IsMade, IsTyped}
+use Rattle.infer_result.specs.Own.{empty_table, Column, entry_kind, index, col, IsLong, InferenceResult, TypeMismatch, HasTy, BindingTy, WasSeen, mismatch, Given, IsVariantAt, IsCtorAt, IsCallee, ArgsRule, IsPatOf, Demand, at_or_mismatch, ObeysOrMismatch, PatRule, IsTruePatMismatch, IsTrueDiagnostic, IsTruePatDiagnostic, IsBinder, NamesVariant, IsVariantPat, IsMisfit, IsMade, IsTyped}
+use Rattle.infer_result.specs.Columns as column
 use Rattle.infer_result.specs.declared.modes.BindingMode.TheVariants as mode
 use Rattle.infer_result.proofs.Derived.{one_at, fn_def_parts, same_type_args, typed_by_schedule}
-use Rattle.infer_result.proofs.Samples.Small.{facts_with, e, p, b, w, u8, one_u8, plain, body_of, each_below, each_node, apart_by, only, each_entry, each_found, each_placed, closed_u8, u8_is_no_bool, u8_differs_bool, none_placed, no_pat_items}
+use Rattle.infer_result.proofs.Samples.Small.{facts_with, e, p, b, w, u8, one_u8, plain, body_of, each_below, each_node, apart_by, only, each_entry, TypesHave, all_types_by, each_placed, closed_u8, u8_is_no_bool, u8_differs_bool, none_placed, no_pat_items}
 use Rattle.infer_result.proofs.Samples.Calling.{unseen}
 
 -- ---- adts
@@ -139,25 +140,14 @@ is_schedule = record {
 -- the types of the path to `Some`, of the call, of the path `x`; of the patterns `Some(x)` and `None`, of `x` as a pattern; of
 -- `x` as a binding
 abbrev table_of : Ty → Ty → Ty → Ty → Ty → Ty → List (Option TypeMismatch) → List (Option VariantId) → List (Option VariantId) → InferenceResult
-table_of callee call name whole x bound mismatches expr_variants pat_variants = record {
+table_of callee call name whole x bound mismatches expr_variants pat_variants = record (empty_table given.body) {
   type_of_expr = Some callee ∷ Some u8 ∷ Some call ∷ Some name ∷ Some u8 ∷ Some u8 ∷ Some u8 ∷ [];
   type_of_pat = Some whole ∷ Some x ∷ Some whole ∷ [];
-  item_of_pat = None ∷ None ∷ None ∷ [];
   type_of_binding = Some bound ∷ [];
-  type_of_placeholder = [];
   binding_modes = None ∷ Some mode.Move ∷ None ∷ [];
   expr_mismatches = mismatches;
-  expr_diagnostics = None ∷ None ∷ None ∷ None ∷ None ∷ None ∷ None ∷ [];
-  pat_mismatches = None ∷ None ∷ None ∷ [];
-  pat_diagnostics = None ∷ None ∷ None ∷ [];
   expr_variants = expr_variants;
   pat_variants = pat_variants;
-  seen = [];
-  proofs = [];
-  projections = [];
-  expr_gaps = [];
-  pat_gaps = [];
-  general = None;
 }
 
 abbrev silent : List (Option TypeMismatch)
@@ -220,22 +210,21 @@ some_obeys = record {
   resolved = refl;
 }
 
+right_long : (c : Column) → IsLong given.body (index c) (length (col right c))
+right_long column.type_of_placeholder = tt
+right_long _ = refl
+
+right_closed : (c : Column) → TypesHave IsClosed (entry_kind c) (col right c)
+right_closed column.type_of_expr = (closed_some, (closed_u8, (closed_maybe, (closed_u8, (closed_u8, (closed_u8, (closed_u8, tt)))))))
+right_closed column.type_of_pat = (closed_maybe, (closed_u8, (closed_maybe, tt)))
+right_closed column.type_of_binding = (closed_u8, tt)
+right_closed _ = tt
+
 right_made : IsMade given right
 right_made = record {
   shape = record {
-    of_body = record { exprs = refl; pats = refl; bindings = refl; items = refl; modes = refl; mismatches = refl; diagnostics = refl; pat_mismatches = refl; pat_diagnostics = refl; expr_variants = refl; pat_variants = refl };
-    closed = record {
-      exprs = each_entry IsClosed right.type_of_expr (closed_some, (closed_u8, (closed_maybe, (closed_u8, (closed_u8, (closed_u8, (closed_u8, tt)))))));
-      pats = each_entry IsClosed right.type_of_pat (closed_maybe, (closed_u8, (closed_maybe, tt)));
-      bindings = each_entry IsClosed right.type_of_binding (closed_u8, tt);
-      placeholders = λ k s at. absurd (cc);
-      items = each_entry IsClosed right.item_of_pat tt;
-      expected = each_entry (λ x. IsClosed x.expected) right.expr_mismatches tt;
-      actual = each_entry (λ x. IsClosed x.actual) right.expr_mismatches tt;
-      pat_expected = each_entry (λ x. IsClosed x.expected) right.pat_mismatches tt;
-      pat_actual = each_entry (λ x. IsClosed x.actual) right.pat_mismatches tt;
-      found = each_found IsClosed right.expr_diagnostics tt;
-    };
+    of_body = record { long = right_long };
+    closed = all_types_by IsClosed right right_closed;
     modes = λ x. each_placed (λ k m. IsBinder body (p k)) right.binding_modes ((b 0, None, refl), tt) x.0;
     placeholders = none_placed given right refl;
     variants = record {

@@ -16,10 +16,11 @@ use Rattle.infer_result.specs.Words.hir_raw.declared.raw.RawPath.TheVariants as 
 use Rattle.infer_result.specs.Words.hir_raw.declared.raw.RawExpr.TheVariants as expr
 use Rattle.infer_result.specs.Words.hir_raw.declared.raw.RawPat.TheVariants as pat
 use Rattle.infer_result.proofs.Words.{has_hole_adt, has_hole_fn_def}
-use Rattle.infer_result.specs.Own.{InferenceResult, alias_goal, PatTy, BindingTy, Given, IsVariantAt, IsCtorAt, IsItemOf, IsPatOf, Demand, ObeysOrMismatch, PatRule, IsTruePatMismatch, IsTrueDiagnostic, IsTruePatDiagnostic, IsBinder, NamesVariant, IsVariantPat, IsItemOfPat, IsMisfit, IsMade, IsNeeded, pat_needs_by, IsTyped}
+use Rattle.infer_result.specs.Own.{empty_table, Column, entry_kind, index, col, IsLong, InferenceResult, alias_goal, PatTy, BindingTy, Given, IsVariantAt, IsCtorAt, IsItemOf, IsPatOf, Demand, ObeysOrMismatch, PatRule, IsTruePatMismatch, IsTrueDiagnostic, IsTruePatDiagnostic, IsBinder, NamesVariant, IsVariantPat, IsItemOfPat, IsMisfit, IsMade, IsNeeded, pat_needs_by, IsTyped}
+use Rattle.infer_result.specs.Columns as column
 use Rattle.infer_result.specs.declared.modes.BindingMode.TheVariants as mode
 use Rattle.infer_result.proofs.Derived.{typed_by_schedule}
-use Rattle.infer_result.proofs.Samples.Small.{e, p, b, w, u8, plain, body_with, each_below, each_node, apart_by, one_param, only, each_entry, each_found, each_placed, closed_u8, closed_unit, none_placed}
+use Rattle.infer_result.proofs.Samples.Small.{e, p, b, w, u8, plain, body_with, each_below, each_node, apart_by, one_param, only, each_entry, TypesHave, all_types_by, each_placed, closed_u8, closed_unit, none_placed}
 use Rattle.infer_result.proofs.Samples.Constructors.{v, adt, adt_of, variant_of, scope_of_adt}
 
 abbrev body : RawBody
@@ -92,25 +93,13 @@ is_schedule = record {
 
 -- the item of the pattern `W(x)`, and the type of `x`
 abbrev table_of : Option Ty → Ty → InferenceResult
-table_of found x = record {
+table_of found x = record (empty_table given.body) {
   type_of_expr = Some whole ∷ Some unit ∷ [];
   type_of_pat = Some whole ∷ Some whole ∷ Some x ∷ [];
   item_of_pat = None ∷ found ∷ None ∷ [];
   type_of_binding = Some whole ∷ Some x ∷ [];
-  type_of_placeholder = [];
   binding_modes = Some mode.Move ∷ None ∷ Some mode.Move ∷ [];
-  expr_mismatches = None ∷ None ∷ [];
-  expr_diagnostics = None ∷ None ∷ [];
-  pat_mismatches = None ∷ None ∷ None ∷ [];
-  pat_diagnostics = None ∷ None ∷ None ∷ [];
-  expr_variants = None ∷ None ∷ [];
   pat_variants = None ∷ Some (v 0) ∷ None ∷ [];
-  seen = [];
-  proofs = [];
-  projections = [];
-  expr_gaps = [];
-  pat_gaps = [];
-  general = None;
 }
 
 -- the pattern is of the constructor where the associated type is s
@@ -150,22 +139,22 @@ module _ (s : Ty) (closed_s : IsClosed s) where
     is = refl;
   }
 
+  right_long : (c : Column) → IsLong given.body (index c) (length (col right c))
+  right_long column.type_of_placeholder = tt
+  right_long _ = refl
+
+  right_closed : (c : Column) → TypesHave IsClosed (entry_kind c) (col right c)
+  right_closed column.type_of_expr = (closed_whole, (closed_unit, tt))
+  right_closed column.type_of_pat = (closed_whole, (closed_whole, (closed_s, tt)))
+  right_closed column.type_of_binding = (closed_whole, (closed_s, tt))
+  right_closed column.item_of_pat = (closed_item, tt)
+  right_closed _ = tt
+
   right_made : IsMade given right
   right_made = record {
     shape = record {
-      of_body = record { exprs = refl; pats = refl; bindings = refl; items = refl; modes = refl; mismatches = refl; diagnostics = refl; pat_mismatches = refl; pat_diagnostics = refl; expr_variants = refl; pat_variants = refl };
-      closed = record {
-        exprs = each_entry IsClosed right.type_of_expr (closed_whole, (closed_unit, tt));
-        pats = each_entry IsClosed right.type_of_pat (closed_whole, (closed_whole, (closed_s, tt)));
-        bindings = each_entry IsClosed right.type_of_binding (closed_whole, (closed_s, tt));
-        placeholders = λ k u at. absurd (cc);
-        items = each_entry IsClosed right.item_of_pat (closed_item, tt);
-        expected = each_entry (λ x. IsClosed x.expected) right.expr_mismatches tt;
-        actual = each_entry (λ x. IsClosed x.actual) right.expr_mismatches tt;
-        pat_expected = each_entry (λ x. IsClosed x.expected) right.pat_mismatches tt;
-        pat_actual = each_entry (λ x. IsClosed x.actual) right.pat_mismatches tt;
-        found = each_found IsClosed right.expr_diagnostics tt;
-      };
+      of_body = record { long = right_long };
+      closed = all_types_by IsClosed right right_closed;
       modes = λ x. each_placed (λ k m. IsBinder body (p k)) right.binding_modes ((b 0, None, refl), ((b 1, None, refl), tt)) x.0;
       placeholders = none_placed given right refl;
       variants = record {

@@ -1,5 +1,5 @@
 -- The table of the first run, `fn f() -> u8 { let x = 1u8; x }`, is typed; tables that are wrong at one node are not.
-use Rattle.std.proofs.Common.{◌+◌, ◌<◌, ◌≡◌, inl, inr, Bool, true, false, List, [], ◌∷◌, refl, sym, ap, ◌∙◌, arith, Option, Some, None, slice_get}
+use Rattle.std.proofs.Common.{◌+◌, ◌<◌, ◌≡◌, inl, inr, Bool, true, false, List, [], ◌∷◌, refl, sym, ap, ◌∙◌, arith, Option, Some, None, slice_get, length}
 use Rattle.hir_types.specs.declared.ids.ExprOrPatId.TheVariants as node
 use Rattle.infer_result.specs.Words.{Ty, Ty-F, fold-roll-Ty, RawBody, Schedule, erased, has_hole, hole_arg, hole_step, hole_bound, hole_trait, IsClosed, initializer, tail, the_body, inner, IsSchedule, start, end, after, Fits, parts}
 use Rattle.hir_types.specs.declared.ty.Ty.TheVariants as ty
@@ -7,10 +7,11 @@ use Rattle.infer_result.specs.Words.hir_raw.declared.raw.RawPath.TheVariants as 
 use Rattle.infer_result.specs.Words.hir_raw.declared.raw.RawStmt.TheVariants as stmt
 use Rattle.infer_result.specs.Words.hir_raw.declared.raw.RawExpr.TheVariants as expr
 use Rattle.infer_result.specs.Words.hir_raw.declared.raw.RawPat.TheVariants as pat
-use Rattle.infer_result.specs.Own.{InferenceResult, TypeMismatch, BindingTy, mismatch, Given, Demand, ObeysOrMismatch, PatRule, IsTruePatMismatch, IsTrueDiagnostic, IsTruePatDiagnostic, IsBinder, NamesVariant, IsVariantPat, IsMisfit, IsMade, IsTyped}
+use Rattle.infer_result.specs.Own.{empty_table, Column, entry_kind, index, col, IsLong, InferenceResult, TypeMismatch, BindingTy, mismatch, Given, Demand, ObeysOrMismatch, PatRule, IsTruePatMismatch, IsTrueDiagnostic, IsTruePatDiagnostic, IsBinder, NamesVariant, IsVariantPat, IsMisfit, IsMade, IsTyped}
+use Rattle.infer_result.specs.Columns as column
 use Rattle.infer_result.specs.declared.modes.BindingMode.TheVariants as mode
 use Rattle.infer_result.proofs.Derived.{typed_by_schedule}
-use Rattle.infer_result.proofs.Samples.Small.{scope_with, e, p, b, u8, u16, one_u8, plain, body_of, each_below, each_node, apart_by, asked, only, each_entry, each_found, closed_u8, u8_is_no_u16, u8_is_no_error, u8_differs_u16, each_placed, none_placed, no_pat_items}
+use Rattle.infer_result.proofs.Samples.Small.{scope_with, e, p, b, u8, u16, one_u8, plain, body_of, each_below, each_node, apart_by, asked, only, each_entry, TypesHave, all_types_by, closed_u8, u8_is_no_u16, u8_is_no_error, u8_differs_u16, each_placed, none_placed, no_pat_items}
 
 abbrev body : RawBody
 body =
@@ -36,46 +37,32 @@ is_schedule = record {
 }
 
 abbrev table_of : List (Option Ty) → List (Option TypeMismatch) → InferenceResult
-table_of types mismatches = record {
+table_of types mismatches = record (empty_table given.body) {
   type_of_expr = types;
   type_of_pat = Some u8 ∷ [];
-  item_of_pat = None ∷ [];
   type_of_binding = Some u8 ∷ [];
-  type_of_placeholder = [];
   binding_modes = Some mode.Move ∷ [];
   expr_mismatches = mismatches;
-  expr_diagnostics = None ∷ None ∷ None ∷ [];
-  pat_mismatches = None ∷ [];
-  pat_diagnostics = None ∷ [];
-  expr_variants = None ∷ None ∷ None ∷ [];
-  pat_variants = None ∷ [];
-  seen = [];
-  proofs = [];
-  projections = [];
-  expr_gaps = [];
-  pat_gaps = [];
-  general = None;
 }
 
 abbrev right : InferenceResult
 right = table_of (Some u8 ∷ Some u8 ∷ Some u8 ∷ []) (None ∷ None ∷ None ∷ [])
 
+right_long : (c : Column) → IsLong given.body (index c) (length (col right c))
+right_long column.type_of_placeholder = tt
+right_long _ = refl
+
+right_closed : (c : Column) → TypesHave IsClosed (entry_kind c) (col right c)
+right_closed column.type_of_expr = (closed_u8, (closed_u8, (closed_u8, tt)))
+right_closed column.type_of_pat = (closed_u8, tt)
+right_closed column.type_of_binding = (closed_u8, tt)
+right_closed _ = tt
+
 right_made : IsMade given right
 right_made = record {
   shape = record {
-    of_body = record { exprs = refl; pats = refl; bindings = refl; items = refl; modes = refl; mismatches = refl; diagnostics = refl; pat_mismatches = refl; pat_diagnostics = refl; expr_variants = refl; pat_variants = refl };
-    closed = record {
-      exprs = each_entry IsClosed right.type_of_expr (closed_u8, (closed_u8, (closed_u8, tt)));
-      pats = each_entry IsClosed right.type_of_pat (closed_u8, tt);
-      bindings = each_entry IsClosed right.type_of_binding (closed_u8, tt);
-      placeholders = λ k s at. absurd (cc);
-      items = each_entry IsClosed right.item_of_pat tt;
-      expected = each_entry (λ x. IsClosed x.expected) right.expr_mismatches tt;
-      actual = each_entry (λ x. IsClosed x.actual) right.expr_mismatches tt;
-      pat_expected = each_entry (λ x. IsClosed x.expected) right.pat_mismatches tt;
-      pat_actual = each_entry (λ x. IsClosed x.actual) right.pat_mismatches tt;
-      found = each_found IsClosed right.expr_diagnostics tt;
-    };
+    of_body = record { long = right_long };
+    closed = all_types_by IsClosed right right_closed;
     modes = λ x. each_placed (λ k m. IsBinder body (p k)) right.binding_modes ((b 0, None, refl), tt) x.0;
     placeholders = none_placed given right refl;
     variants = record {
@@ -123,7 +110,7 @@ other_block h =
 -- a hole
 pub a_hole : IsTyped given (table_of (Some u8 ∷ Some (ty.Var 0) ∷ Some u8 ∷ []) (None ∷ None ∷ None ∷ [])) → ⊥
 a_hole h =
-    (let closed : has_hole (ty.Var 0) ≡ false = h.shape.closed.exprs 1 (ty.Var 0) refl in
+    (let closed : has_hole (ty.Var 0) ≡ false = h.shape.closed.each column.type_of_expr 1 (ty.Var 0) refl in
     let open_ : has_hole (ty.Var 0) ≡ true = ap has_hole (sym (ty.rolls-Var 0)) ∙ fold-roll-Ty Bool Bool Bool Bool hole_arg hole_step hole_bound hole_trait (Ty-F.Var 0) in
     let clash : false ≡ true = sym closed ∙ open_ in cc)
 

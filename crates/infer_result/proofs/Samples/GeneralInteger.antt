@@ -1,6 +1,6 @@
 -- `fn f() { let x = id(1); }` where `fn id<T>(x: T) -> T`: one hole of integer types stands throughout, and each integer type
 -- may stand for it.
-use Rattle.std.proofs.Common.{◌+◌, ◌<◌, ◌≡◌, inl, List, [], ◌∷◌, length, refl, sym, ap, subst, ◌∙◌, arith, Some, None, slice_get}
+use Rattle.std.proofs.Common.{ℕ, ◌+◌, ◌<◌, ◌≡◌, inl, List, [], ◌∷◌, length, refl, sym, ap, subst, ◌∙◌, arith, Some, None, slice_get}
 use Rattle.std.specs.Prelude.{codes, IsTrue}
 use Rattle.hir_types.specs.declared.ids.CallableDefId.TheVariants as callable
 use Rattle.infer_result.specs.Words.{DefWithBodyId, IntegerTy, Ty, RawType, RawAdt, RawVariant, RawFn, RawBody, RawFacts, Schedule, erased, IsClosed, replaced_int_var, replaced_tuple, param_at, Assignment, with_holes, folded, integer_type, unit, ty_fits, ty_fits_tuple, let_pattern, the_body, inner, IsSchedule, start, end, after, Fits, parts, plain_bool, Scope, scope_of, fn_signature, at_args, filled_within, written_type, fallback, fn_aliases, variant_aliases}
@@ -19,10 +19,11 @@ use Rattle.infer_result.specs.Words.hir_raw.declared.raw.RawStmt.TheVariants as 
 use Rattle.infer_result.specs.Words.hir_raw.declared.raw.RawExpr.TheVariants as expr
 use Rattle.infer_result.specs.Words.hir_raw.declared.raw.RawPat.TheVariants as pat
 use Rattle.infer_result.proofs.Words.{has_hole_integer}
-use Rattle.infer_result.specs.Own.{General, InferenceResult, IsBinder, NamesVariant, IsVariantPat, AllTypes, IsDerivation, IsGeneralType, general_integer_hole, general_tuple, general_item, IsGeneralFor, HasTypesOf, IsPlainClosing, closed_by, IsGeneralOf, Given, ObeysExpression, ObeysPattern, HasTy, PatTy, BindingTy, given, IsKnown, has_unknown_tuple}
+use Rattle.infer_result.specs.Own.{empty_table, Column, Entry, entry_kind, index, col, IsIn, IsLong, AreComplaints, General, InferenceResult, IsBinder, NamesVariant, IsVariantPat, AllTypes, IsDerivation, IsGeneralType, general_integer_hole, general_tuple, general_item, IsGeneralFor, HasTypesOf, IsPlainClosing, closed_by, IsGeneralOf, Given, ObeysExpression, ObeysPattern, HasTy, PatTy, BindingTy, given, IsKnown, has_unknown_tuple}
+use Rattle.infer_result.specs.Columns as column
 use Rattle.infer_result.specs.declared.modes.BindingMode.TheVariants as mode
 use Rattle.infer_result.proofs.NoNeeds.{no_gaps, needs_hold}
-use Rattle.infer_result.proofs.Samples.Small.{e, p, b, w, plain, body_of, function_of, facts_with, each_below, each_node, apart_by, comes, only, each_entry, each_found, each_placed, closed_unit, none_placed, no_pat_items}
+use Rattle.infer_result.proofs.Samples.Small.{e, p, b, w, plain, body_of, function_of, facts_with, each_below, each_node, apart_by, comes, only, each_entry, TypesHave, all_types_by, each_placed, closed_unit, none_placed, no_pat_items}
 use Rattle.infer_result.proofs.Samples.Calling.{function, item}
 use Rattle.infer_result.proofs.Samples.Holes.{each_in, known_integer, fits_integer, bool_is_no_integer, item_under, closed_at, known_at, fits_at}
 
@@ -87,25 +88,11 @@ abbrev pub general : General
 general = record { exprs = item (hole ∷ []) ∷ hole ∷ hole ∷ unit ∷ []; pats = hole ∷ []; bindings = hole ∷ [] }
 
 abbrev pub table_at : Ty → InferenceResult
-table_at s = record {
+table_at s = record (empty_table body) {
   type_of_expr = Some (item (s ∷ [])) ∷ Some s ∷ Some s ∷ Some unit ∷ [];
   type_of_pat = Some s ∷ [];
-  item_of_pat = None ∷ [];
   type_of_binding = Some s ∷ [];
-  type_of_placeholder = [];
   binding_modes = Some mode.Move ∷ [];
-  expr_mismatches = None ∷ None ∷ None ∷ None ∷ [];
-  expr_diagnostics = None ∷ None ∷ None ∷ None ∷ [];
-  pat_mismatches = None ∷ [];
-  pat_diagnostics = None ∷ [];
-  expr_variants = None ∷ None ∷ None ∷ None ∷ [];
-  pat_variants = None ∷ [];
-  seen = [];
-  proofs = [];
-  projections = [];
-  expr_gaps = [];
-  pat_gaps = [];
-  general = None;
 }
 
 abbrev pub i32 : Ty
@@ -161,19 +148,14 @@ bool_closes_not h =
 
 -- ---- derivations
 
+types_have : (P : Ty → Type 0) (s : Ty) → P (item (s ∷ [])) → P s → P unit → (c : Column) → TypesHave P (entry_kind c) (col (table_at s) c)
+types_have P s callee own empty column.type_of_expr = (callee, (own, (own, (empty, tt))))
+types_have P s callee own empty column.type_of_pat = (own, tt)
+types_have P s callee own empty column.type_of_binding = (own, tt)
+types_have P s callee own empty _ = tt
+
 all_types : (P : Ty → Type 0) (s : Ty) → P (item (s ∷ [])) → P s → P unit → AllTypes P (table_at s)
-all_types P s callee own empty = record {
-  exprs = each_entry P (table_at s).type_of_expr (callee, (own, (own, (empty, tt))));
-  pats = each_entry P (table_at s).type_of_pat (own, tt);
-  bindings = each_entry P (table_at s).type_of_binding (own, tt);
-  placeholders = λ k u found. absurd (cc);
-  items = each_entry P (table_at s).item_of_pat tt;
-  expected = each_entry (λ x. P x.expected) (table_at s).expr_mismatches tt;
-  actual = each_entry (λ x. P x.actual) (table_at s).expr_mismatches tt;
-  pat_expected = each_entry (λ x. P x.expected) (table_at s).pat_mismatches tt;
-  pat_actual = each_entry (λ x. P x.actual) (table_at s).pat_mismatches tt;
-  found = each_found P (table_at s).expr_diagnostics tt;
-}
+all_types P s callee own empty = all_types_by P (table_at s) (types_have P s callee own empty)
 
 call_obeys : (s : Ty) → ObeysExpression Here (table_at s) (e 2)
 call_obeys s = inl (record {
@@ -190,13 +172,24 @@ pattern_obeys s = record {
   kind = (s, refl, refl, refl);
 }
 
+no_complaint : (s : Ty) (c : Column) → AreComplaints (entry_kind c) → (n : ℕ) (x : Entry c) → IsIn (table_at s) c n x → ⊥
+no_complaint s column.expr_mismatches is = each_entry (λ x. ⊥) (table_at s).expr_mismatches tt
+no_complaint s column.expr_diagnostics is = each_entry (λ x. ⊥) (table_at s).expr_diagnostics tt
+no_complaint s column.pat_mismatches is = each_entry (λ x. ⊥) (table_at s).pat_mismatches tt
+no_complaint s column.pat_diagnostics is = each_entry (λ x. ⊥) (table_at s).pat_diagnostics tt
+no_complaint s _ is = absurd is
+
+is_long : (s : Ty) (c : Column) → IsLong body (index c) (length (col (table_at s) c))
+is_long s column.type_of_placeholder = tt
+is_long s _ = refl
+
 -- at each integer type the table is one
 pub integer_derives : (i : IntegerTy) → IsDerivation facts f (table_at (integer_type i))
 integer_derives i = let s : Ty = integer_type i in record {
   body = body;
   is_body = refl;
   shape = record {
-    of_body = record { exprs = refl; pats = refl; bindings = refl; items = refl; modes = refl; mismatches = refl; diagnostics = refl; pat_mismatches = refl; pat_diagnostics = refl; expr_variants = refl; pat_variants = refl };
+    of_body = record { long = is_long s };
     closed = all_types IsClosed s (closed_at s (has_hole_integer i)) (has_hole_integer i) closed_unit;
     modes = λ x. each_placed (λ k m. IsBinder body (p k)) (table_at s).binding_modes ((b 0, None, refl), tt) x.0;
     placeholders = none_placed Here (table_at s) refl;
@@ -214,10 +207,7 @@ integer_derives i = let s : Ty = integer_type i in record {
   known = all_types IsKnown s (known_at s (known_integer i)) (known_integer i) (has_unknown_tuple []);
   fit = all_types (λ u. IsTrue (ty_fits scope u)) s (fits_at scope s refl (fits_integer scope i)) (fits_integer scope i) (ty_fits_tuple scope []);
   clean = record {
-    mismatches = each_entry (λ m. ⊥) (table_at s).expr_mismatches tt;
-    diagnostics = each_entry (λ d. ⊥) (table_at s).expr_diagnostics tt;
-    pat_mismatches = each_entry (λ m. ⊥) (table_at s).pat_mismatches tt;
-    pat_diagnostics = each_entry (λ d. ⊥) (table_at s).pat_diagnostics tt;
+    complaints = no_complaint s;
     gaps = no_gaps (table_at s) refl refl;
   };
   exprs = λ x h.

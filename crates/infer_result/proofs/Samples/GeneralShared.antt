@@ -14,7 +14,7 @@ use Rattle.infer_result.specs.Words.hir_raw.declared.raw.RawPath.TheVariants as 
 use Rattle.infer_result.specs.Words.hir_raw.declared.raw.RawStmt.TheVariants as stmt
 use Rattle.infer_result.specs.Words.hir_raw.declared.raw.RawExpr.TheVariants as expr
 use Rattle.infer_result.specs.Words.hir_raw.declared.raw.RawPat.TheVariants as pat
-use Rattle.infer_result.specs.Own.{General, InferenceResult, IsGeneralType, general_hole, general_bool, general_tuple, general_item, IsGeneralFor, HasTypesOf, IsPlainClosing}
+use Rattle.infer_result.specs.Own.{empty_table, General, InferenceResult, IsGeneralType, general_hole, general_bool, general_tuple, general_item, IsGeneralFor, HasTypesOf, IsPlainClosing}
 use Rattle.infer_result.specs.declared.modes.BindingMode.TheVariants as mode
 use Rattle.infer_result.proofs.Samples.Small.{e, p, b, w, u8, plain, body_with, function_of, facts_with, only, u8_is_no_bool}
 use Rattle.infer_result.proofs.Samples.Calling.{function, item}
@@ -57,25 +57,11 @@ general = record {
 }
 
 abbrev pub table_at : Ty → Ty → InferenceResult
-table_at s u = record {
+table_at s u = record (empty_table body) {
   type_of_expr = Some ty.Bool ∷ Some (item (s ∷ [])) ∷ Some s ∷ Some s ∷ Some (item (u ∷ [])) ∷ Some u ∷ Some u ∷ Some s ∷ Some unit ∷ [];
   type_of_pat = Some ty.Bool ∷ Some s ∷ [];
-  item_of_pat = None ∷ None ∷ [];
   type_of_binding = Some ty.Bool ∷ Some s ∷ [];
-  type_of_placeholder = [];
   binding_modes = Some mode.Move ∷ Some mode.Move ∷ [];
-  expr_mismatches = None ∷ None ∷ None ∷ None ∷ None ∷ None ∷ None ∷ None ∷ None ∷ [];
-  expr_diagnostics = None ∷ None ∷ None ∷ None ∷ None ∷ None ∷ None ∷ None ∷ None ∷ [];
-  pat_mismatches = None ∷ None ∷ [];
-  pat_diagnostics = None ∷ None ∷ [];
-  expr_variants = None ∷ None ∷ None ∷ None ∷ None ∷ None ∷ None ∷ None ∷ None ∷ [];
-  pat_variants = None ∷ None ∷ [];
-  seen = [];
-  proofs = [];
-  projections = [];
-  expr_gaps = [];
-  pat_gaps = [];
-  general = None;
 }
 
 abbrev callee_is_general : IsGeneralType scope (item (hole ∷ []))

@@ -1,5 +1,5 @@
 -- `fn f(c: bool) -> u8 { if c { 1u8 } else { 1u8 } }`: both branches are at the type of the `if`.
-use Rattle.std.proofs.Common.{◌+◌, ◌<◌, ◌≡◌, inl, inr, true, List, [], ◌∷◌, refl, sym, ap, subst, ◌∙◌, arith, Option, Some, None, slice_get}
+use Rattle.std.proofs.Common.{◌+◌, ◌<◌, ◌≡◌, inl, inr, true, List, [], ◌∷◌, refl, sym, ap, subst, ◌∙◌, arith, Option, Some, None, slice_get, length}
 use Rattle.hir_types.specs.declared.ids.ExprOrPatId.TheVariants as node
 use Rattle.infer_result.specs.Words.{Ty, RawType, RawExpr, RawBody, Schedule, filled_within, written_type, erased, IsClosed, tail, condition, then_branch, the_body, inner, IsSchedule, start, end, after, Fits, parts}
 use Rattle.hir_types.specs.declared.ty.Ty.TheVariants as ty
@@ -8,10 +8,11 @@ use Rattle.infer_result.specs.Words.hir_raw.declared.raw.RawLiteral.TheVariants 
 use Rattle.infer_result.specs.Words.hir_raw.declared.raw.RawPath.TheVariants as path
 use Rattle.infer_result.specs.Words.hir_raw.declared.raw.RawExpr.TheVariants as expr
 use Rattle.infer_result.specs.Words.hir_raw.declared.raw.RawPat.TheVariants as pat
-use Rattle.infer_result.specs.Own.{InferenceResult, TypeMismatch, PatTy, BindingTy, mismatch, Given, Demand, ObeysOrMismatch, PatRule, IsTruePatMismatch, IsTrueDiagnostic, IsTruePatDiagnostic, IsBinder, NamesVariant, IsVariantPat, IsMisfit, IsMade, IsTyped}
+use Rattle.infer_result.specs.Own.{empty_table, Column, entry_kind, index, col, IsLong, InferenceResult, TypeMismatch, PatTy, BindingTy, mismatch, Given, Demand, ObeysOrMismatch, PatRule, IsTruePatMismatch, IsTrueDiagnostic, IsTruePatDiagnostic, IsBinder, NamesVariant, IsVariantPat, IsMisfit, IsMade, IsTyped}
+use Rattle.infer_result.specs.Columns as column
 use Rattle.infer_result.specs.declared.modes.BindingMode.TheVariants as mode
 use Rattle.infer_result.proofs.Derived.{typed_by_schedule}
-use Rattle.infer_result.proofs.Samples.Small.{scope_with, e, p, b, w, u8, u16, one_u8, plain, body_with, each_below, each_node, apart_by, asked, one_param, no_other, only, each_entry, each_found, nowhere, closed_u8, closed_bool, u8_is_no_u16, u8_is_no_bool, u8_differs_bool, each_placed, none_placed, no_pat_items}
+use Rattle.infer_result.proofs.Samples.Small.{scope_with, e, p, b, w, u8, u16, one_u8, plain, body_with, each_below, each_node, apart_by, asked, one_param, no_other, only, each_entry, TypesHave, all_types_by, nowhere, closed_u8, closed_bool, u8_is_no_u16, u8_is_no_bool, u8_differs_bool, each_placed, none_placed, no_pat_items}
 
 -- the body with another condition, or another expression after `else`
 abbrev body_of : RawExpr → RawExpr → RawBody
@@ -57,25 +58,12 @@ is_schedule = record {
 }
 
 abbrev table_of : List (Option Ty) → List (Option TypeMismatch) → InferenceResult
-table_of exprs mismatches = record {
+table_of exprs mismatches = record (empty_table given.body) {
   type_of_expr = exprs;
   type_of_pat = Some ty.Bool ∷ [];
-  item_of_pat = None ∷ [];
   type_of_binding = Some ty.Bool ∷ [];
-  type_of_placeholder = [];
   binding_modes = Some mode.Move ∷ [];
   expr_mismatches = mismatches;
-  expr_diagnostics = None ∷ None ∷ None ∷ None ∷ None ∷ [];
-  pat_mismatches = None ∷ [];
-  pat_diagnostics = None ∷ [];
-  expr_variants = None ∷ None ∷ None ∷ None ∷ None ∷ [];
-  pat_variants = None ∷ [];
-  seen = [];
-  proofs = [];
-  projections = [];
-  expr_gaps = [];
-  pat_gaps = [];
-  general = None;
 }
 
 abbrev silent : List (Option TypeMismatch)
@@ -87,22 +75,21 @@ right_types = Some ty.Bool ∷ Some u8 ∷ Some u8 ∷ Some u8 ∷ Some u8 ∷ [
 abbrev right : InferenceResult
 right = table_of right_types silent
 
+right_long : (c : Column) → IsLong given.body (index c) (length (col right c))
+right_long column.type_of_placeholder = tt
+right_long _ = refl
+
+right_closed : (c : Column) → TypesHave IsClosed (entry_kind c) (col right c)
+right_closed column.type_of_expr = (closed_bool, (closed_u8, (closed_u8, (closed_u8, (closed_u8, tt)))))
+right_closed column.type_of_pat = (closed_bool, tt)
+right_closed column.type_of_binding = (closed_bool, tt)
+right_closed _ = tt
+
 right_made : IsMade given right
 right_made = record {
   shape = record {
-    of_body = record { exprs = refl; pats = refl; bindings = refl; items = refl; modes = refl; mismatches = refl; diagnostics = refl; pat_mismatches = refl; pat_diagnostics = refl; expr_variants = refl; pat_variants = refl };
-    closed = record {
-      exprs = each_entry IsClosed right.type_of_expr (closed_bool, (closed_u8, (closed_u8, (closed_u8, (closed_u8, tt)))));
-      pats = each_entry IsClosed right.type_of_pat (closed_bool, tt);
-      bindings = each_entry IsClosed right.type_of_binding (closed_bool, tt);
-      placeholders = λ k s at. absurd (cc);
-      items = each_entry IsClosed right.item_of_pat tt;
-      expected = each_entry (λ x. IsClosed x.expected) right.expr_mismatches tt;
-      actual = each_entry (λ x. IsClosed x.actual) right.expr_mismatches tt;
-      pat_expected = each_entry (λ x. IsClosed x.expected) right.pat_mismatches tt;
-      pat_actual = each_entry (λ x. IsClosed x.actual) right.pat_mismatches tt;
-      found = each_found IsClosed right.expr_diagnostics tt;
-    };
+    of_body = record { long = right_long };
+    closed = all_types_by IsClosed right right_closed;
     modes = λ x. each_placed (λ k m. IsBinder body (p k)) right.binding_modes ((b 0, None, refl), tt) x.0;
     placeholders = none_placed given right refl;
     variants = record {

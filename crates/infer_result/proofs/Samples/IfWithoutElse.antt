@@ -1,6 +1,6 @@
 -- `fn f(c: bool) { let x = if c { 1u8 }; }`: the mismatch stands at the `if` itself, which has the type of its branch and may end
 -- without a value; its own type is then any.
-use Rattle.std.proofs.Common.{◌+◌, ◌<◌, ◌≡◌, inl, inr, List, [], ◌∷◌, refl, sym, ap, subst, ◌∙◌, arith, Option, Some, None, slice_get}
+use Rattle.std.proofs.Common.{◌+◌, ◌<◌, ◌≡◌, inl, inr, List, [], ◌∷◌, refl, sym, ap, subst, ◌∙◌, arith, Option, Some, None, slice_get, length}
 use Rattle.hir_types.specs.declared.ids.ExprOrPatId.TheVariants as node
 use Rattle.infer_result.specs.Words.{Ty, RawType, RawBody, Schedule, unit, filled_within, written_type, erased, IsClosed, initializer, then_branch, the_body, inner, IsSchedule, start, end, after, Fits, parts}
 use Rattle.hir_types.specs.declared.ty.Ty.TheVariants as ty
@@ -9,10 +9,11 @@ use Rattle.infer_result.specs.Words.hir_raw.declared.raw.RawPath.TheVariants as 
 use Rattle.infer_result.specs.Words.hir_raw.declared.raw.RawStmt.TheVariants as stmt
 use Rattle.infer_result.specs.Words.hir_raw.declared.raw.RawExpr.TheVariants as expr
 use Rattle.infer_result.specs.Words.hir_raw.declared.raw.RawPat.TheVariants as pat
-use Rattle.infer_result.specs.Own.{InferenceResult, TypeMismatch, HasTy, PatTy, BindingTy, mismatch, Given, Demand, ObeysOrMismatch, PatRule, IsTruePatMismatch, IsTrueDiagnostic, IsTruePatDiagnostic, IsBinder, NamesVariant, IsVariantPat, IsMisfit, IsMade, IsTyped}
+use Rattle.infer_result.specs.Own.{empty_table, Column, entry_kind, index, col, IsLong, InferenceResult, TypeMismatch, HasTy, PatTy, BindingTy, mismatch, Given, Demand, ObeysOrMismatch, PatRule, IsTruePatMismatch, IsTrueDiagnostic, IsTruePatDiagnostic, IsBinder, NamesVariant, IsVariantPat, IsMisfit, IsMade, IsTyped}
+use Rattle.infer_result.specs.Columns as column
 use Rattle.infer_result.specs.declared.modes.BindingMode.TheVariants as mode
 use Rattle.infer_result.proofs.Derived.{typed_by_schedule}
-use Rattle.infer_result.proofs.Samples.Small.{scope_with, e, p, b, w, u8, one_u8, plain, body_with, each_below, each_node, apart_by, asks_here, asked, one_param, no_other, only, each_entry, each_found, each_placed, nowhere, closed_u8, closed_bool, closed_unit, closed_error, u8_is_no_bool, u8_is_no_unit, bool_is_no_error, bool_is_no_unit, u8_differs_unit, none_placed, no_pat_items}
+use Rattle.infer_result.proofs.Samples.Small.{scope_with, e, p, b, w, u8, one_u8, plain, body_with, each_below, each_node, apart_by, asks_here, asked, one_param, no_other, only, each_entry, TypesHave, all_types_by, each_placed, nowhere, closed_u8, closed_bool, closed_unit, closed_error, u8_is_no_bool, u8_is_no_unit, bool_is_no_error, bool_is_no_unit, u8_differs_unit, none_placed, no_pat_items}
 
 abbrev types : List RawType
 types = type.Bool ∷ []
@@ -49,46 +50,33 @@ is_schedule = record {
 
 -- the `if` has the type s
 abbrev table_of : Ty → List (Option TypeMismatch) → InferenceResult
-table_of s mismatches = record {
+table_of s mismatches = record (empty_table given.body) {
   type_of_expr = Some ty.Bool ∷ Some u8 ∷ Some s ∷ Some unit ∷ [];
   type_of_pat = Some ty.Bool ∷ Some s ∷ [];
-  item_of_pat = None ∷ None ∷ [];
   type_of_binding = Some ty.Bool ∷ Some s ∷ [];
-  type_of_placeholder = [];
   binding_modes = Some mode.Move ∷ Some mode.Move ∷ [];
   expr_mismatches = mismatches;
-  expr_diagnostics = None ∷ None ∷ None ∷ None ∷ [];
-  pat_mismatches = None ∷ None ∷ [];
-  pat_diagnostics = None ∷ None ∷ [];
-  expr_variants = None ∷ None ∷ None ∷ None ∷ [];
-  pat_variants = None ∷ None ∷ [];
-  seen = [];
-  proofs = [];
-  projections = [];
-  expr_gaps = [];
-  pat_gaps = [];
-  general = None;
 }
 
 abbrev right : Ty → InferenceResult
 right s = table_of s (None ∷ None ∷ Some (mismatch u8 unit) ∷ None ∷ [])
 
+right_long : (s : Ty) (c : Column) → IsLong given.body (index c) (length (col (right s) c))
+right_long s column.type_of_placeholder = tt
+right_long s _ = refl
+
+right_closed : (s : Ty) → IsClosed s → (c : Column) → TypesHave IsClosed (entry_kind c) (col (right s) c)
+right_closed s closed_s column.type_of_expr = (closed_bool, (closed_u8, (closed_s, (closed_unit, tt))))
+right_closed s closed_s column.type_of_pat = (closed_bool, (closed_s, tt))
+right_closed s closed_s column.type_of_binding = (closed_bool, (closed_s, tt))
+right_closed s closed_s column.expr_mismatches = ((closed_u8, closed_unit), tt)
+right_closed s closed_s _ = tt
+
 right_made : (s : Ty) → IsClosed s → IsMade given (right s)
 right_made s closed_s = record {
   shape = record {
-    of_body = record { exprs = refl; pats = refl; bindings = refl; items = refl; modes = refl; mismatches = refl; diagnostics = refl; pat_mismatches = refl; pat_diagnostics = refl; expr_variants = refl; pat_variants = refl };
-    closed = record {
-      exprs = each_entry IsClosed (right s).type_of_expr (closed_bool, (closed_u8, (closed_s, (closed_unit, tt))));
-      pats = each_entry IsClosed (right s).type_of_pat (closed_bool, (closed_s, tt));
-      bindings = each_entry IsClosed (right s).type_of_binding (closed_bool, (closed_s, tt));
-      placeholders = λ k s at. absurd (cc);
-      items = each_entry IsClosed (right s).item_of_pat tt;
-      expected = each_entry (λ x. IsClosed x.expected) (right s).expr_mismatches (closed_u8, tt);
-      actual = each_entry (λ x. IsClosed x.actual) (right s).expr_mismatches (closed_unit, tt);
-      pat_expected = each_entry (λ x. IsClosed x.expected) (right s).pat_mismatches tt;
-      pat_actual = each_entry (λ x. IsClosed x.actual) (right s).pat_mismatches tt;
-      found = each_found IsClosed (right s).expr_diagnostics tt;
-    };
+    of_body = record { long = right_long s };
+    closed = all_types_by IsClosed (right s) (right_closed s closed_s);
     modes = λ x. each_placed (λ k m. IsBinder body (p k)) (right s).binding_modes ((b 0, None, refl), ((b 1, None, refl), tt)) x.0;
     placeholders = none_placed given (right s) refl;
     variants = record {

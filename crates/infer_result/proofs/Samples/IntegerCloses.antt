@@ -7,6 +7,7 @@ use Rattle.hir_types.specs.declared.ids.CallableDefId.TheVariants as callable
 use Rattle.hir_types.specs.declared.ty.Const.TheVariants as const
 use Rattle.hir_types.specs.declared.ty.Ty.TheVariants as ty
 use Rattle.infer_result.specs.Own.{InferenceResult, IsOfBody, IsCalled, IsPlainItem, IsPlainDerivation, IsPlainClosing, ArgsRule, CallRule, at_types, ObeysExpression, ObeysPattern, At, HasTy, PatTy, BindingTy, given}
+use Rattle.infer_result.specs.Columns as column
 use Rattle.infer_result.proofs.Derived.{one_at, fn_def_parts, same_type_args}
 use Rattle.infer_result.proofs.Samples.Small.{e, p, b}
 use Rattle.infer_result.proofs.Samples.Calling.{function, item}
@@ -91,7 +92,7 @@ module _ (t : InferenceResult) (h : IsPlainDerivation facts f t) where
   -- the argument stands at it too
   argument_at : (s x : Ty) → HasTy t (e 1) s → IsPlainIn scope s → IsPlainIn scope x → Arguments x (fn_signature types id).inputs → s ≡ x
   argument_at s x has own plain (inr wrong) = absurd wrong
-  argument_at s x has own plain (inl (inr (m, listed), rest)) = absurd (h.derivation.clean.mismatches 1 m listed)
+  argument_at s x has own plain (inl (inr (m, listed), rest)) = absurd (h.derivation.clean.complaints column.expr_mismatches tt 1 m listed)
   argument_at s x has own plain (inl (inl (u, at, same), rest)) =
       let here : u ≡ s = one_at t.type_of_expr 1 u s at has in
       same_plain s x own plain (ap erased (sym here) ∙ (same ∙ ap erased (at_type x)))
@@ -141,9 +142,9 @@ module _ (t : InferenceResult) (h : IsPlainDerivation facts f t) where
         types = record { var = λ n. ty.Bool; int_var = λ n. integer_type i; const_var = λ n. const.Unknown };
         are_plain = record { var = λ n. plain_bool; int_var = λ n. (i, refl) };
         has = record {
-          exprs = four_entries t.type_of_expr (item (s ∷ [])) s s unit of_body.exprs callee arg call block ∙ given_types.exprs;
-          pats = one_entry t.type_of_pat s of_body.pats pattern ∙ given_types.pats;
-          bindings = one_entry t.type_of_binding s of_body.bindings binding ∙ given_types.bindings;
+          exprs = four_entries t.type_of_expr (item (s ∷ [])) s s unit (of_body.long column.type_of_expr) callee arg call block ∙ given_types.exprs;
+          pats = one_entry t.type_of_pat s (of_body.long column.type_of_pat) pattern ∙ given_types.pats;
+          bindings = one_entry t.type_of_binding s (of_body.long column.type_of_binding) binding ∙ given_types.bindings;
         };
       }
 

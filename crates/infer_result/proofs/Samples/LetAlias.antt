@@ -1,5 +1,5 @@
 -- `fn f() { let x: <u8 as A>::O = true; }`, where it is known that the associated type is `bool`: that is recorded for it.
-use Rattle.std.proofs.Common.{ℕ, zero, suc, ◌+◌, ◌<◌, ◌≡◌, inl, true, List, [], ◌∷◌, refl, ap, arith, Option, Some, None, slice_get}
+use Rattle.std.proofs.Common.{ℕ, zero, suc, ◌+◌, ◌<◌, ◌≡◌, inl, true, List, [], ◌∷◌, refl, ap, arith, Option, Some, None, slice_get, length}
 use Rattle.hir_types.specs.declared.ids.ExprOrPatId.TheVariants as node
 use Rattle.infer_result.specs.Words.{Ty, RawType, RawBody, Schedule, unit, erased, IsClosed, is_hole, the_body, inner, IsSchedule, start, end, after, Fits, parts, filled_within, StandsIn, is_itself}
 use Rattle.hir_types.specs.declared.ty.Ty.TheVariants as ty
@@ -10,10 +10,11 @@ use Rattle.infer_result.specs.Words.hir_raw.declared.raw.RawLiteral.TheVariants 
 use Rattle.infer_result.specs.Words.hir_raw.declared.raw.RawStmt.TheVariants as stmt
 use Rattle.infer_result.specs.Words.hir_raw.declared.raw.RawExpr.TheVariants as expr
 use Rattle.infer_result.specs.Words.hir_raw.declared.raw.RawPat.TheVariants as pat
-use Rattle.infer_result.specs.Own.{InferenceResult, IsBinder, NamesVariant, IsVariantPat, BindingTy, PlaceholderTy, Given, let_types, declared, IsPlaceholder, IsAsKnown, AreRecorded, Demand, ObeysOrMismatch, PatRule, IsTruePatMismatch, IsTrueDiagnostic, IsTruePatDiagnostic, IsMisfit, IsMade, IsTyped}
+use Rattle.infer_result.specs.Own.{empty_table, Column, entry_kind, index, col, IsLong, InferenceResult, IsBinder, NamesVariant, IsVariantPat, BindingTy, PlaceholderTy, Given, let_types, declared, IsPlaceholder, IsAsKnown, AreRecorded, Demand, ObeysOrMismatch, PatRule, IsTruePatMismatch, IsTrueDiagnostic, IsTruePatDiagnostic, IsMisfit, IsMade, IsTyped}
+use Rattle.infer_result.specs.Columns as column
 use Rattle.infer_result.specs.declared.modes.BindingMode.TheVariants as mode
 use Rattle.infer_result.proofs.Derived.{typed_by_schedule}
-use Rattle.infer_result.proofs.Samples.Small.{scope_with, e, p, b, w, u8, plain, body_of, each_below, each_node, apart_by, each_entry, each_found, each_placed, closed_bool, closed_unit, u8_differs_bool, no_pat_items}
+use Rattle.infer_result.proofs.Samples.Small.{scope_with, e, p, b, w, u8, plain, body_of, each_below, each_node, apart_by, each_entry, TypesHave, all_types_by, each_placed, closed_bool, closed_unit, u8_differs_bool, no_pat_items}
 
 abbrev types : List RawType
 types = type.Integer (integer.Uint uint.U8) ∷ type.Projection (record { 0 = 0 }) (w 0 ∷ []) ∷ []
@@ -41,25 +42,12 @@ is_schedule = record {
 
 -- what is recorded for the associated type
 abbrev table_of : Option Ty → InferenceResult
-table_of found = record {
+table_of found = record (empty_table given.body) {
   type_of_expr = Some ty.Bool ∷ Some unit ∷ [];
   type_of_pat = Some ty.Bool ∷ [];
-  item_of_pat = None ∷ [];
   type_of_binding = Some ty.Bool ∷ [];
   type_of_placeholder = None ∷ found ∷ [];
   binding_modes = Some mode.Move ∷ [];
-  expr_mismatches = None ∷ None ∷ [];
-  expr_diagnostics = None ∷ None ∷ [];
-  pat_mismatches = None ∷ [];
-  pat_diagnostics = None ∷ [];
-  expr_variants = None ∷ None ∷ [];
-  pat_variants = None ∷ [];
-  seen = [];
-  proofs = [];
-  projections = [];
-  expr_gaps = [];
-  pat_gaps = [];
-  general = None;
 }
 
 abbrev right : InferenceResult
@@ -89,22 +77,22 @@ is_placeholder = record { block = e 1; at_stmt = 0; pattern = p 0; written = w 1
 as_known : IsAsKnown given 1 ty.Bool
 as_known u is = (let both : Some ty.Bool ≡ Some u = is in cc)
 
+right_long : (c : Column) → IsLong given.body (index c) (length (col right c))
+right_long column.type_of_placeholder = tt
+right_long _ = refl
+
+right_closed : (c : Column) → TypesHave IsClosed (entry_kind c) (col right c)
+right_closed column.type_of_expr = (closed_bool, (closed_unit, tt))
+right_closed column.type_of_pat = (closed_bool, tt)
+right_closed column.type_of_binding = (closed_bool, tt)
+right_closed column.type_of_placeholder = (closed_bool, tt)
+right_closed _ = tt
+
 right_made : IsMade given right
 right_made = record {
   shape = record {
-    of_body = record { exprs = refl; pats = refl; bindings = refl; items = refl; modes = refl; mismatches = refl; diagnostics = refl; pat_mismatches = refl; pat_diagnostics = refl; expr_variants = refl; pat_variants = refl };
-    closed = record {
-      exprs = each_entry IsClosed right.type_of_expr (closed_bool, (closed_unit, tt));
-      pats = each_entry IsClosed right.type_of_pat (closed_bool, tt);
-      bindings = each_entry IsClosed right.type_of_binding (closed_bool, tt);
-      placeholders = each_entry IsClosed right.type_of_placeholder (closed_bool, tt);
-      items = each_entry IsClosed right.item_of_pat tt;
-      expected = each_entry (λ x. IsClosed x.expected) right.expr_mismatches tt;
-      actual = each_entry (λ x. IsClosed x.actual) right.expr_mismatches tt;
-      pat_expected = each_entry (λ x. IsClosed x.expected) right.pat_mismatches tt;
-      pat_actual = each_entry (λ x. IsClosed x.actual) right.pat_mismatches tt;
-      found = each_found IsClosed right.expr_diagnostics tt;
-    };
+    of_body = record { long = right_long };
+    closed = all_types_by IsClosed right right_closed;
     modes = λ x. each_placed (λ k m. IsBinder body (p k)) right.binding_modes ((b 0, None, refl), tt) x.0;
     placeholders = each_placed (λ k s. IsPlaceholder given k × IsAsKnown given k s) right.type_of_placeholder ((is_placeholder, as_known), tt);
     variants = record {

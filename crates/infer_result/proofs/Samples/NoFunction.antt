@@ -1,5 +1,5 @@
 -- `fn f() { 1u8(2u8); }`: what is called is no function, which is said at the call and kept in what was seen.
-use Rattle.std.proofs.Common.{ℕ, zero, suc, ◌+◌, ◌<◌, ◌≡◌, inl, inr, List, [], ◌∷◌, refl, sym, ap, subst, ◌∙◌, arith, Option, Some, None, slice_get}
+use Rattle.std.proofs.Common.{ℕ, zero, suc, ◌+◌, ◌<◌, ◌≡◌, inl, inr, List, [], ◌∷◌, refl, sym, ap, subst, ◌∙◌, arith, Option, Some, None, slice_get, length}
 use Rattle.std.specs.Prelude.{Bool, codes, true}
 use Rattle.infer_result.specs.Words.{ExprId, CallableDefId, GenericArg, Ty, Ty-F, out-Ty, out-roll-Ty, fold-roll-Ty, RawLiteral, RawType, RawFn, RawBody, Schedule, unit, IsClosed, Assignment, with_holes, replaced_uint, the_body, inner, IsSchedule, start, end, after, Fits, parts, fn_signature}
 use Rattle.hir_types.specs.declared.ids.ExprOrPatId.TheVariants as node
@@ -12,10 +12,11 @@ use Rattle.infer_result.specs.Words.hir_raw.declared.raw.RawLiteral.TheVariants 
 use Rattle.infer_result.specs.Words.hir_raw.declared.raw.RawPath.TheVariants as path
 use Rattle.infer_result.specs.Words.hir_raw.declared.raw.RawStmt.TheVariants as stmt
 use Rattle.infer_result.specs.Words.hir_raw.declared.raw.RawExpr.TheVariants as expr
-use Rattle.infer_result.specs.Own.{InferenceResult, Seen, InferenceDiagnostic, NamesVariant, IsVariantPat, HasTy, HasDiagnostic, Given, Demand, IsOwnType, ObeysOrMismatch, unknown_arg, unknown_step, unknown_bound, unknown_trait, has_unknown, IsKnown, Up, of_literal, of_written, of_initializer, of_parameter, of_call, of_unit, Outermost, HasHead, HeadOf, IsTruePatMismatch, callable_step, IsPathToItem, IsSaid, IsTrueSeen, IsTrueDiagnostic, IsTruePatDiagnostic, IsMisfit, IsMade, IsTyped}
+use Rattle.infer_result.specs.Own.{empty_table, Column, entry_kind, index, col, IsLong, InferenceResult, Seen, InferenceDiagnostic, NamesVariant, IsVariantPat, HasTy, HasDiagnostic, Given, Demand, IsOwnType, ObeysOrMismatch, unknown_arg, unknown_step, unknown_bound, unknown_trait, has_unknown, IsKnown, Up, of_literal, of_written, of_initializer, of_parameter, of_call, of_unit, Outermost, HasHead, HeadOf, IsTruePatMismatch, callable_step, IsPathToItem, IsSaid, IsTrueSeen, IsTrueDiagnostic, IsTruePatDiagnostic, IsMisfit, IsMade, IsTyped}
+use Rattle.infer_result.specs.Columns as column
 use Rattle.infer_result.specs.declared.diagnostics.InferenceDiagnostic.TheVariants as diagnostic
 use Rattle.infer_result.proofs.Derived.{typed_by_schedule}
-use Rattle.infer_result.proofs.Samples.Small.{scope_with, e, u8, one_u8, body_of, each_below, each_node, apart_by, only, each_entry, each_found, each_placed, closed_u8, closed_error, closed_unit, top_uint, u8_is_no_bool, none_placed, no_pat_items}
+use Rattle.infer_result.proofs.Samples.Small.{scope_with, e, u8, one_u8, body_of, each_below, each_node, apart_by, only, each_entry, TypesHave, all_types_by, each_placed, closed_u8, closed_error, closed_unit, top_uint, u8_is_no_bool, none_placed, no_pat_items}
 use Rattle.infer_result.proofs.Samples.Calling.{function, calling, unseen}
 
 abbrev two_u8 : RawLiteral
@@ -58,25 +59,10 @@ no_function s = diagnostic.ExpectedFunction (e 2) s
 
 -- the complaint at the call, and what was seen
 abbrev table_of : Option InferenceDiagnostic → List Seen → InferenceResult
-table_of said seen = record {
+table_of said seen = record (empty_table given.body) {
   type_of_expr = Some u8 ∷ Some u8 ∷ Some ty.Error ∷ Some unit ∷ [];
-  type_of_pat = [];
-  item_of_pat = [];
-  type_of_binding = [];
-  type_of_placeholder = [];
-  binding_modes = [];
-  expr_mismatches = None ∷ None ∷ None ∷ None ∷ [];
   expr_diagnostics = None ∷ None ∷ said ∷ None ∷ [];
-  pat_mismatches = [];
-  pat_diagnostics = [];
-  expr_variants = None ∷ None ∷ None ∷ None ∷ [];
-  pat_variants = [];
   seen = seen;
-  proofs = [];
-  projections = [];
-  expr_gaps = [];
-  pat_gaps = [];
-  general = None;
 }
 
 abbrev right : InferenceResult
@@ -137,22 +123,20 @@ is_said call called args s at is has known =
     let type : u8 ≡ s = cc in
     subst (λ n. HasDiagnostic right n (diagnostic.ExpectedFunction n s)) here (subst (λ u. HasDiagnostic right (e 2) (no_function u)) type refl)
 
+right_long : (c : Column) → IsLong given.body (index c) (length (col right c))
+right_long column.type_of_placeholder = tt
+right_long _ = refl
+
+right_closed : (c : Column) → TypesHave IsClosed (entry_kind c) (col right c)
+right_closed column.type_of_expr = (closed_u8, (closed_u8, (closed_error, (closed_unit, tt))))
+right_closed column.expr_diagnostics = (closed_u8, tt)
+right_closed _ = tt
+
 right_made : IsMade given right
 right_made = record {
   shape = record {
-    of_body = record { exprs = refl; pats = refl; bindings = refl; items = refl; modes = refl; mismatches = refl; diagnostics = refl; pat_mismatches = refl; pat_diagnostics = refl; expr_variants = refl; pat_variants = refl };
-    closed = record {
-      exprs = each_entry IsClosed right.type_of_expr (closed_u8, (closed_u8, (closed_error, (closed_unit, tt))));
-      pats = λ n s h. absurd (cc);
-      bindings = λ n s h. absurd (cc);
-      placeholders = λ k s at. absurd (cc);
-      items = λ n s h. absurd (cc);
-      expected = each_entry (λ x. IsClosed x.expected) right.expr_mismatches tt;
-      actual = each_entry (λ x. IsClosed x.actual) right.expr_mismatches tt;
-      pat_expected = each_entry (λ x. IsClosed x.expected) right.pat_mismatches tt;
-      pat_actual = each_entry (λ x. IsClosed x.actual) right.pat_mismatches tt;
-      found = each_found IsClosed right.expr_diagnostics (closed_u8, tt);
-    };
+    of_body = record { long = right_long };
+    closed = all_types_by IsClosed right right_closed;
     modes = λ x m at. absurd (cc);
     placeholders = none_placed given right refl;
     variants = record {

@@ -7,7 +7,7 @@ use Rattle.infer_result.specs.Words.{Ty, Ty-F, out-Ty, out-roll-Ty, replaced_boo
 use Rattle.hir_types.specs.declared.ty.Ty.TheVariants as ty
 use Rattle.infer_result.specs.Words.hir_raw.declared.raw.RawExpr.TheVariants as expr
 use Rattle.infer_result.specs.Words.hir_raw.declared.raw.RawPat.TheVariants as pat
-use Rattle.infer_result.specs.Own.{InferenceResult, Given, StandsAt, PatIsAtOrMismatch, Incoming, ObeysPattern, table_under}
+use Rattle.infer_result.specs.Own.{empty_table, InferenceResult, Given, StandsAt, PatIsAtOrMismatch, Incoming, ObeysPattern, table_under}
 use Rattle.infer_result.proofs.Under.{At-before, pat_type_under}
 use Rattle.infer_result.proofs.Samples.Small.{scope_with, e, p, body_with, each_node, apart_by, comes, only, top_bool, top_tuple}
 
@@ -34,25 +34,9 @@ is_schedule = record {
 
 -- a hole for the type of the whole, and a part at `bool`
 abbrev table : InferenceResult
-table = record {
+table = record (empty_table given.body) {
   type_of_expr = Some unit ∷ [];
   type_of_pat = Some (ty.Var 0) ∷ Some ty.Bool ∷ [];
-  item_of_pat = None ∷ None ∷ [];
-  type_of_binding = [];
-  type_of_placeholder = [];
-  binding_modes = None ∷ None ∷ [];
-  expr_mismatches = None ∷ [];
-  expr_diagnostics = None ∷ [];
-  pat_mismatches = None ∷ None ∷ [];
-  pat_diagnostics = None ∷ None ∷ [];
-  expr_variants = None ∷ [];
-  pat_variants = None ∷ None ∷ [];
-  seen = [];
-  proofs = [];
-  projections = [];
-  expr_gaps = [];
-  pat_gaps = [];
-  general = None;
 }
 
 abbrev single : Ty

@@ -1,5 +1,5 @@
 -- `fn f() { let x: (_, bool) = (1u8, true); }`: it is recorded that the `_` stands for `u8`.
-use Rattle.std.proofs.Common.{ℕ, zero, suc, ◌+◌, ◌<◌, ◌≡◌, inl, inr, true, List, [], ◌∷◌, refl, ap, ◌∙◌, arith, Option, Some, None, slice_get}
+use Rattle.std.proofs.Common.{ℕ, zero, suc, ◌+◌, ◌<◌, ◌≡◌, inl, inr, true, List, [], ◌∷◌, refl, ap, ◌∙◌, arith, Option, Some, None, slice_get, length}
 use Rattle.hir_types.specs.declared.ids.ExprOrPatId.TheVariants as node
 use Rattle.infer_result.specs.Words.{Ty, RawType, RawBody, Schedule, unit, erased, IsClosed, Same, IsCarriedType, carried_bool, carried_integer, carried_tuple, same_carried, is_hole, the_body, inner, IsSchedule, start, end, after, Fits, parts, filled_within, StandsIn, is_itself, in_part}
 use Rattle.hir_types.specs.declared.ty.Ty.TheVariants as ty
@@ -11,10 +11,11 @@ use Rattle.infer_result.specs.Words.hir_raw.declared.raw.RawStmt.TheVariants as 
 use Rattle.infer_result.specs.Words.hir_raw.declared.raw.RawExpr.TheVariants as expr
 use Rattle.infer_result.specs.Words.hir_raw.declared.raw.RawPat.TheVariants as pat
 use Rattle.infer_result.proofs.Words.{has_hole_tuple}
-use Rattle.infer_result.specs.Own.{InferenceResult, IsBinder, NamesVariant, IsVariantPat, BindingTy, PlaceholderTy, Given, declared, IsPlaceholder, IsAsKnown, AreRecorded, Demand, ObeysOrMismatch, PatRule, IsTruePatMismatch, IsTrueDiagnostic, IsTruePatDiagnostic, IsMisfit, IsMade, IsTyped}
+use Rattle.infer_result.specs.Own.{empty_table, Column, entry_kind, index, col, IsLong, InferenceResult, IsBinder, NamesVariant, IsVariantPat, BindingTy, PlaceholderTy, Given, declared, IsPlaceholder, IsAsKnown, AreRecorded, Demand, ObeysOrMismatch, PatRule, IsTruePatMismatch, IsTrueDiagnostic, IsTruePatDiagnostic, IsMisfit, IsMade, IsTyped}
+use Rattle.infer_result.specs.Columns as column
 use Rattle.infer_result.specs.declared.modes.BindingMode.TheVariants as mode
 use Rattle.infer_result.proofs.Derived.{tuple_parts, typed_by_schedule}
-use Rattle.infer_result.proofs.Samples.Small.{scope_with, e, p, b, w, u8, u16, one_u8, plain, body_of, each_below, each_node, apart_by, only, each_entry, each_found, each_placed, closed_u8, closed_bool, closed_unit, u8_is_no_u16, no_pat_items}
+use Rattle.infer_result.proofs.Samples.Small.{scope_with, e, p, b, w, u8, u16, one_u8, plain, body_of, each_below, each_node, apart_by, only, each_entry, TypesHave, all_types_by, each_placed, closed_u8, closed_bool, closed_unit, u8_is_no_u16, no_pat_items}
 
 -- the pair with this first component
 abbrev pair_of : Ty → Ty
@@ -50,25 +51,12 @@ is_schedule = record {
 
 -- what is recorded for the `_` and for `bool`
 abbrev table_of : Option Ty → Option Ty → InferenceResult
-table_of first second = record {
+table_of first second = record (empty_table given.body) {
   type_of_expr = Some u8 ∷ Some ty.Bool ∷ Some (pair_of u8) ∷ Some unit ∷ [];
   type_of_pat = Some (pair_of u8) ∷ [];
-  item_of_pat = None ∷ [];
   type_of_binding = Some (pair_of u8) ∷ [];
   type_of_placeholder = first ∷ second ∷ [];
   binding_modes = Some mode.Move ∷ [];
-  expr_mismatches = None ∷ None ∷ None ∷ None ∷ [];
-  expr_diagnostics = None ∷ None ∷ None ∷ None ∷ [];
-  pat_mismatches = None ∷ [];
-  pat_diagnostics = None ∷ [];
-  expr_variants = None ∷ None ∷ None ∷ None ∷ [];
-  pat_variants = None ∷ [];
-  seen = [];
-  proofs = [];
-  projections = [];
-  expr_gaps = [];
-  pat_gaps = [];
-  general = None;
 }
 
 abbrev right : InferenceResult
@@ -103,22 +91,22 @@ is_placeholder = record { block = e 3; at_stmt = 0; pattern = p 0; written = w 2
 nothing_known : (k : ℕ) (s : Ty) → IsAsKnown given k s
 nothing_known k s u is = absurd (cc)
 
+right_long : (c : Column) → IsLong given.body (index c) (length (col right c))
+right_long column.type_of_placeholder = tt
+right_long _ = refl
+
+right_closed : (c : Column) → TypesHave IsClosed (entry_kind c) (col right c)
+right_closed column.type_of_expr = (closed_u8, (closed_bool, (closed_pair, (closed_unit, tt))))
+right_closed column.type_of_pat = (closed_pair, tt)
+right_closed column.type_of_binding = (closed_pair, tt)
+right_closed column.type_of_placeholder = (closed_u8, tt)
+right_closed _ = tt
+
 right_made : IsMade given right
 right_made = record {
   shape = record {
-    of_body = record { exprs = refl; pats = refl; bindings = refl; items = refl; modes = refl; mismatches = refl; diagnostics = refl; pat_mismatches = refl; pat_diagnostics = refl; expr_variants = refl; pat_variants = refl };
-    closed = record {
-      exprs = each_entry IsClosed right.type_of_expr (closed_u8, (closed_bool, (closed_pair, (closed_unit, tt))));
-      pats = each_entry IsClosed right.type_of_pat (closed_pair, tt);
-      bindings = each_entry IsClosed right.type_of_binding (closed_pair, tt);
-      placeholders = each_entry IsClosed right.type_of_placeholder (closed_u8, tt);
-      items = each_entry IsClosed right.item_of_pat tt;
-      expected = each_entry (λ x. IsClosed x.expected) right.expr_mismatches tt;
-      actual = each_entry (λ x. IsClosed x.actual) right.expr_mismatches tt;
-      pat_expected = each_entry (λ x. IsClosed x.expected) right.pat_mismatches tt;
-      pat_actual = each_entry (λ x. IsClosed x.actual) right.pat_mismatches tt;
-      found = each_found IsClosed right.expr_diagnostics tt;
-    };
+    of_body = record { long = right_long };
+    closed = all_types_by IsClosed right right_closed;
     modes = λ x. each_placed (λ k m. IsBinder body (p k)) right.binding_modes ((b 0, None, refl), tt) x.0;
     placeholders = each_placed (λ k s. IsPlaceholder given k × IsAsKnown given k s) right.type_of_placeholder ((is_placeholder, nothing_known 0 u8), tt);
     variants = record {

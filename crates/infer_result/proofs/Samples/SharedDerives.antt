@@ -1,13 +1,14 @@
 -- Each closing by a plain type of the types with one shared hole, of `GeneralShared`, is a derivation.
-use Rattle.std.proofs.Common.{◌+◌, ◌<◌, ◌≡◌, inl, [], ◌∷◌, refl, sym, ap, subst, ◌∙◌, arith, Some, None}
+use Rattle.std.proofs.Common.{ℕ, ◌+◌, ◌<◌, ◌≡◌, inl, [], ◌∷◌, refl, sym, ap, subst, ◌∙◌, arith, Some, None, length}
 use Rattle.std.specs.Prelude.{IsTrue}
 use Rattle.hir_types.specs.declared.ids.CallableDefId.TheVariants as callable
 use Rattle.hir_types.specs.declared.ids.ExprOrPatId.TheVariants as node
 use Rattle.infer_result.specs.Words.{Ty, RawAdt, RawVariant, RawFn, Schedule, erased, IsClosed, param_at, Assignment, unit, ty_fits, ty_fits_tuple, parameter as a_parameter, let_pattern, the_body, inner, IsSchedule, start, end, after, Fits, parts, IsPlainIn, plain_bool, fn_signature, at_args, filled_within, written_type, fn_aliases, variant_aliases}
 use Rattle.hir_types.specs.declared.ty.Ty.TheVariants as ty
-use Rattle.infer_result.specs.Own.{InferenceResult, IsBinder, NamesVariant, IsVariantPat, AllTypes, IsDerivation, IsGeneralType, general_bool, closed_by, IsGeneralOf, Given, ObeysExpression, ObeysPattern, HasTy, PatTy, BindingTy, given, IsKnown, has_unknown_bool, has_unknown_tuple}
+use Rattle.infer_result.specs.Own.{Column, Entry, entry_kind, index, col, IsIn, IsLong, AreComplaints, InferenceResult, IsBinder, NamesVariant, IsVariantPat, AllTypes, IsDerivation, IsGeneralType, general_bool, closed_by, IsGeneralOf, Given, ObeysExpression, ObeysPattern, HasTy, PatTy, BindingTy, given, IsKnown, has_unknown_bool, has_unknown_tuple}
+use Rattle.infer_result.specs.Columns as column
 use Rattle.infer_result.proofs.NoNeeds.{no_gaps, needs_hold}
-use Rattle.infer_result.proofs.Samples.Small.{e, p, b, w, each_below, each_node, apart_by, comes, only, each_entry, each_found, each_placed, closed_bool, closed_unit, none_placed, no_pat_items}
+use Rattle.infer_result.proofs.Samples.Small.{e, p, b, w, each_below, each_node, apart_by, comes, only, each_entry, TypesHave, all_types_by, each_placed, closed_bool, closed_unit, none_placed, no_pat_items}
 use Rattle.infer_result.proofs.Samples.Calling.{function, item}
 use Rattle.infer_result.proofs.Samples.Holes.{each_in, closed_at, known_at, fits_at}
 use Rattle.infer_result.proofs.Samples.GeneralKnown.{general_is_known}
@@ -67,19 +68,14 @@ module _ (s : Ty) where
   abbrev table : InferenceResult
   table = table_at s s
 
+  types_have : (P : Ty → Type 0) → P ty.Bool → P (item (s ∷ [])) → P s → P unit → (c : Column) → TypesHave P (entry_kind c) (col table c)
+  types_have P truth callee own empty column.type_of_expr = (truth, (callee, (own, (own, (callee, (own, (own, (own, (empty, tt)))))))))
+  types_have P truth callee own empty column.type_of_pat = (truth, (own, tt))
+  types_have P truth callee own empty column.type_of_binding = (truth, (own, tt))
+  types_have P truth callee own empty _ = tt
+
   all_types : (P : Ty → Type 0) → P ty.Bool → P (item (s ∷ [])) → P s → P unit → AllTypes P table
-  all_types P truth callee own empty = record {
-    exprs = each_entry P table.type_of_expr (truth, (callee, (own, (own, (callee, (own, (own, (own, (empty, tt)))))))));
-    pats = each_entry P table.type_of_pat (truth, (own, tt));
-    bindings = each_entry P table.type_of_binding (truth, (own, tt));
-    placeholders = λ k u found. absurd (cc);
-    items = each_entry P table.item_of_pat tt;
-    expected = each_entry (λ x. P x.expected) table.expr_mismatches tt;
-    actual = each_entry (λ x. P x.actual) table.expr_mismatches tt;
-    pat_expected = each_entry (λ x. P x.expected) table.pat_mismatches tt;
-    pat_actual = each_entry (λ x. P x.actual) table.pat_mismatches tt;
-    found = each_found P table.expr_diagnostics tt;
-  }
+  all_types P truth callee own empty = all_types_by P table (types_have P truth callee own empty)
 
   first_call : ObeysExpression Here table (e 2)
   first_call = inl (record { signature = fn_signature types mk; types = s ∷ []; is_callee = record { item = callable.FunctionId function; has = refl; signature = refl }; arguments = inl tt; has = subst (HasTy table (e 2)) (sym (at_type s)) refl })
@@ -102,13 +98,24 @@ module _ (s : Ty) where
     kind = (s, refl, refl, refl);
   }
 
+  no_complaint : (c : Column) → AreComplaints (entry_kind c) → (n : ℕ) (x : Entry c) → IsIn table c n x → ⊥
+  no_complaint column.expr_mismatches is = each_entry (λ x. ⊥) table.expr_mismatches tt
+  no_complaint column.expr_diagnostics is = each_entry (λ x. ⊥) table.expr_diagnostics tt
+  no_complaint column.pat_mismatches is = each_entry (λ x. ⊥) table.pat_mismatches tt
+  no_complaint column.pat_diagnostics is = each_entry (λ x. ⊥) table.pat_diagnostics tt
+  no_complaint _ is = absurd is
+
+  is_long : (c : Column) → IsLong body (index c) (length (col table c))
+  is_long column.type_of_placeholder = tt
+  is_long _ = refl
+
   -- at each plain type the table is one
   pub plain_derives : IsPlainIn scope s → IsDerivation facts f table
   plain_derives is_plain = let of_hole : IsGeneralType scope s = plain_is_general scope s is_plain in record {
     body = body;
     is_body = refl;
     shape = record {
-      of_body = record { exprs = refl; pats = refl; bindings = refl; items = refl; modes = refl; mismatches = refl; diagnostics = refl; pat_mismatches = refl; pat_diagnostics = refl; expr_variants = refl; pat_variants = refl };
+      of_body = record { long = is_long };
       closed = let own : IsClosed s = plain_is_closed scope s is_plain in all_types IsClosed closed_bool (closed_at s own) own closed_unit;
       modes = λ x. each_placed (λ k m. IsBinder body (p k)) table.binding_modes ((b 0, None, refl), ((b 1, None, refl), tt)) x.0;
       placeholders = none_placed Here table refl;
@@ -127,10 +134,7 @@ module _ (s : Ty) where
     known = let own : IsKnown s = general_is_known scope s of_hole in all_types IsKnown has_unknown_bool (known_at s own) own (has_unknown_tuple []);
     fit = all_types (λ u. IsTrue (ty_fits scope u)) (general_fits scope ty.Bool general_bool) (fits_at scope s refl (general_fits scope s of_hole)) (general_fits scope s of_hole) (ty_fits_tuple scope []);
     clean = record {
-      mismatches = each_entry (λ m. ⊥) table.expr_mismatches tt;
-      diagnostics = each_entry (λ d. ⊥) table.expr_diagnostics tt;
-      pat_mismatches = each_entry (λ m. ⊥) table.pat_mismatches tt;
-      pat_diagnostics = each_entry (λ d. ⊥) table.pat_diagnostics tt;
+      complaints = no_complaint;
       gaps = no_gaps table refl refl;
     };
     exprs = λ x h. each_below (λ k. ObeysExpression Here table (e k)) 9 x.0 (

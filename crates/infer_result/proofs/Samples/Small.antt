@@ -14,8 +14,8 @@ use Rattle.infer_result.specs.Words.hir_raw.declared.raw.RawType.TheVariants as 
 use Rattle.infer_result.specs.Words.hir_raw.declared.raw.RawAt.TheVariants as stands
 use Rattle.infer_result.specs.Words.hir_raw.declared.raw.RawVis.TheVariants as visible
 use Rattle.infer_result.proofs.Words.{has_hole_tuple, has_hole_bool, has_hole_error, has_hole_integer, one_place}
-use Rattle.infer_result.specs.Own.{InferenceResult, InferenceDiagnostic, At, HasTy, PatTy, AnyMismatch, OnlyCtorPatsHaveItems, Given, let_types, AreRecorded, OnlyPlaceholdersHaveTypes, StandsAt, PatIsAtOrMismatch, IsInput, Gives, Incoming, IsBefore, IsOfOther, Asks, IsAsked, Demand, IsOfBranch}
-use Rattle.infer_result.specs.declared.diagnostics.InferenceDiagnostic.TheVariants as diagnostic
+use Rattle.infer_result.specs.Own.{InferenceResult, Column, EntryKind, EntryOf, entry_kind, col, AllIn, AllInDiagnostic, AllTypes, At, HasTy, PatTy, AnyMismatch, OnlyCtorPatsHaveItems, Given, let_types, AreRecorded, OnlyPlaceholdersHaveTypes, StandsAt, PatIsAtOrMismatch, IsInput, Gives, Incoming, IsBefore, IsOfOther, Asks, IsAsked, Demand, IsOfBranch}
+use Rattle.infer_result.specs.Columns as column
 
 abbrev pub e : ℕ → ExprId
 e n = record { 0 = n }
@@ -208,14 +208,22 @@ each_entry P (None ∷ xs) h (suc n) x at = each_entry P xs h n x at
 each_entry P (Some y ∷ xs) h zero x at = subst P (only y x at) h.0
 each_entry P (Some y ∷ xs) h (suc n) x at = each_entry P xs h.1 n x at
 
--- the type that a complaint tells of, where it does, has a property
-abbrev pub FoundHas : (Ty → Type 0) → InferenceDiagnostic → Type 0
-FoundHas P (diagnostic.MismatchedArgCount n expected found) = Unit {0}
-FoundHas P (diagnostic.MismatchedTupleStructPatArgCount n expected found) = Unit {0}
-FoundHas P (diagnostic.ExpectedFunction n found) = P found
+-- each type in these entries has a property
+abbrev pub TypesHave : (Ty → Type 0) → (k : EntryKind) → List (Option (EntryOf k)) → Type 0
+TypesHave P column.a_pat_diagnostic xs = Unit {0}
+TypesHave P column.a_mode xs = Unit {0}
+TypesHave P column.a_variant xs = Unit {0}
+TypesHave P k xs = AllEntries (AllIn P k) xs
 
-pub each_found : (P : Ty → Type 0) (xs : List (Option InferenceDiagnostic)) → AllEntries (FoundHas P) xs → (n : ℕ) (c : ExprId) (s : Ty) → At xs n (diagnostic.ExpectedFunction c s) → P s
-each_found P xs h n c s at = each_entry (FoundHas P) xs h n (diagnostic.ExpectedFunction c s) at
+types_in : (P : Ty → Type 0) (k : EntryKind) (xs : List (Option (EntryOf k))) → TypesHave P k xs → (n : ℕ) (x : EntryOf k) → At xs n x → AllIn P k x
+types_in P column.a_type xs h n x at = each_entry P xs h n x at
+types_in P column.a_mismatch xs h n x at = each_entry (AllIn P column.a_mismatch) xs h n x at
+types_in P column.a_diagnostic xs h n x at = each_entry (AllInDiagnostic P) xs h n x at
+types_in P _ xs h n x at = tt
+
+-- so has each of the table, column by column
+pub all_types_by : (P : Ty → Type 0) (t : InferenceResult) → ((c : Column) → TypesHave P (entry_kind c) (col t c)) → AllTypes P t
+all_types_by P t h = record { each = λ c. types_in P (entry_kind c) (col t c) (h c) }
 
 -- each entry that is there has a property at its position
 abbrev pub AllPlaced : {A : Type 0} → (ℕ → A → Type 0) → List (Option A) → Type 0

@@ -10,7 +10,7 @@ use Rattle.hir_types.specs.declared.ty.Ty.TheVariants as ty
 use Rattle.infer_result.specs.Words.hir_raw.declared.raw.RawArgs.TheVariants as args
 use Rattle.infer_result.specs.Words.hir_raw.declared.raw.RawGoal.TheVariants as goal
 use Rattle.infer_result.specs.Words.hir_raw.declared.raw.RawLiteral.TheVariants as literal
-use Rattle.infer_result.specs.Own.{Gap, InferenceResult, Given, item_args, IsNeeded, HoldsUnknown, GoalsHold}
+use Rattle.infer_result.specs.Own.{empty_table, Gap, InferenceResult, Given, item_args, IsNeeded, HoldsUnknown, GoalsHold}
 use Rattle.infer_result.specs.declared.gaps.Gap.TheVariants as gap
 use Rattle.infer_result.proofs.Samples.Small.{e, w}
 use Rattle.infer_result.proofs.Samples.Calling.{function, calling, item}
@@ -27,25 +27,9 @@ given = calling types (record id { preds = bound ∷ [] }) yes ty.Bool
 
 -- without a proof
 abbrev table_of : List (List Gap) → InferenceResult
-table_of gaps = record {
+table_of gaps = record (empty_table given.body) {
   type_of_expr = Some (item (ty.Bool ∷ [])) ∷ Some ty.Bool ∷ Some ty.Bool ∷ Some ty.Bool ∷ [];
-  type_of_pat = [];
-  item_of_pat = [];
-  type_of_binding = [];
-  type_of_placeholder = [];
-  binding_modes = [];
-  expr_mismatches = None ∷ None ∷ None ∷ None ∷ [];
-  expr_diagnostics = None ∷ None ∷ None ∷ None ∷ [];
-  pat_mismatches = [];
-  pat_diagnostics = [];
-  expr_variants = None ∷ None ∷ None ∷ None ∷ [];
-  pat_variants = [];
-  seen = [];
-  proofs = [];
-  projections = [];
   expr_gaps = gaps;
-  pat_gaps = [];
-  general = None;
 }
 
 -- that `bool` implements the trait

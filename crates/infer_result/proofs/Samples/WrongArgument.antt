@@ -1,5 +1,5 @@
 -- `fn f() { take(true) }` where `fn take(x: u8)`: the mismatch stands at the argument.
-use Rattle.std.proofs.Common.{◌≡◌, inl, inr, true, List, [], ◌∷◌, refl, sym, ap, subst, ◌∙◌, arith, Option, Some, None}
+use Rattle.std.proofs.Common.{◌≡◌, inl, inr, true, List, [], ◌∷◌, refl, sym, ap, subst, ◌∙◌, arith, Option, Some, None, length}
 use Rattle.hir_types.specs.declared.ids.ExprOrPatId.TheVariants as node
 use Rattle.hir_types.specs.declared.ids.CallableDefId.TheVariants as callable
 use Rattle.infer_result.specs.Words.{Ty, RawLiteral, RawType, RawFn, unit, erased, IsClosed, with_params, replaced_uint, replaced_tuple, filled_within, written_type, argument, inner, fn_signature, at_args}
@@ -8,9 +8,10 @@ use Rattle.hir_types.specs.declared.ty.UintTy.TheVariants as uint
 use Rattle.hir_types.specs.declared.ty.IntegerTy.TheVariants as integer
 use Rattle.infer_result.specs.Words.hir_raw.declared.raw.RawLiteral.TheVariants as literal
 use Rattle.infer_result.specs.Words.hir_raw.declared.raw.RawType.TheVariants as type
-use Rattle.infer_result.specs.Own.{InferenceResult, TypeMismatch, NamesVariant, IsVariantPat, HasTy, mismatch, Given, IsCallee, Demand, ObeysOrMismatch, IsTruePatMismatch, IsTrueDiagnostic, IsTruePatDiagnostic, IsMisfit, IsMade, IsTyped}
+use Rattle.infer_result.specs.Own.{empty_table, Column, entry_kind, index, col, IsLong, InferenceResult, TypeMismatch, NamesVariant, IsVariantPat, HasTy, mismatch, Given, IsCallee, Demand, ObeysOrMismatch, IsTruePatMismatch, IsTrueDiagnostic, IsTruePatDiagnostic, IsMisfit, IsMade, IsTyped}
+use Rattle.infer_result.specs.Columns as column
 use Rattle.infer_result.proofs.Derived.{typed_by_schedule}
-use Rattle.infer_result.proofs.Samples.Small.{e, w, u8, function_of, each_below, only, each_entry, each_found, each_placed, closed_u8, closed_bool, closed_unit, u8_is_no_bool, u8_is_no_unit, u8_differs_bool, none_placed, no_pat_items}
+use Rattle.infer_result.proofs.Samples.Small.{e, w, u8, function_of, each_below, only, each_entry, TypesHave, all_types_by, each_placed, closed_u8, closed_bool, closed_unit, u8_is_no_bool, u8_is_no_unit, u8_differs_bool, none_placed, no_pat_items}
 use Rattle.infer_result.proofs.Samples.Calling.{function, calling, schedule, is_schedule, item, closed_item, obeyed, unseen, asked_of_argument}
 
 abbrev types : List RawType
@@ -41,25 +42,9 @@ output_is = ap (at_args []) output_written ∙ replaced_tuple (with_params []) [
 
 -- the type of the argument
 abbrev table_of : Ty → List (Option TypeMismatch) → InferenceResult
-table_of s mismatches = record {
+table_of s mismatches = record (empty_table given.body) {
   type_of_expr = Some (item []) ∷ Some s ∷ Some unit ∷ Some unit ∷ [];
-  type_of_pat = [];
-  item_of_pat = [];
-  type_of_binding = [];
-  type_of_placeholder = [];
-  binding_modes = [];
   expr_mismatches = mismatches;
-  expr_diagnostics = None ∷ None ∷ None ∷ None ∷ [];
-  pat_mismatches = [];
-  pat_diagnostics = [];
-  expr_variants = None ∷ None ∷ None ∷ None ∷ [];
-  pat_variants = [];
-  seen = [];
-  proofs = [];
-  projections = [];
-  expr_gaps = [];
-  pat_gaps = [];
-  general = None;
 }
 
 abbrev right : InferenceResult
@@ -94,22 +79,20 @@ demanded = inl (record {
   };
 })
 
+right_long : (c : Column) → IsLong given.body (index c) (length (col right c))
+right_long column.type_of_placeholder = tt
+right_long _ = refl
+
+right_closed : (c : Column) → TypesHave IsClosed (entry_kind c) (col right c)
+right_closed column.type_of_expr = (closed_item [] refl, (closed_bool, (closed_unit, (closed_unit, tt))))
+right_closed column.expr_mismatches = ((closed_u8, closed_bool), tt)
+right_closed _ = tt
+
 right_made : IsMade given right
 right_made = record {
   shape = record {
-    of_body = record { exprs = refl; pats = refl; bindings = refl; items = refl; modes = refl; mismatches = refl; diagnostics = refl; pat_mismatches = refl; pat_diagnostics = refl; expr_variants = refl; pat_variants = refl };
-    closed = record {
-      exprs = each_entry IsClosed right.type_of_expr (closed_item [] refl, (closed_bool, (closed_unit, (closed_unit, tt))));
-      pats = λ n s h. absurd (cc);
-      bindings = λ n s h. absurd (cc);
-      placeholders = λ k s at. absurd (cc);
-      items = λ n s h. absurd (cc);
-      expected = each_entry (λ x. IsClosed x.expected) right.expr_mismatches (closed_u8, tt);
-      actual = each_entry (λ x. IsClosed x.actual) right.expr_mismatches (closed_bool, tt);
-      pat_expected = each_entry (λ x. IsClosed x.expected) right.pat_mismatches tt;
-      pat_actual = each_entry (λ x. IsClosed x.actual) right.pat_mismatches tt;
-      found = each_found IsClosed right.expr_diagnostics tt;
-    };
+    of_body = record { long = right_long };
+    closed = all_types_by IsClosed right right_closed;
     modes = λ x m at. absurd (cc);
     placeholders = none_placed given right refl;
     variants = record {

@@ -1,6 +1,6 @@
 -- `fn f(c: bool) { match c { true => 1u8, false => true }; }`: the mismatch stands at the second arm, of which the type of the first
 -- is asked; the type of the `match` is then any.
-use Rattle.std.proofs.Common.{◌+◌, ◌<◌, ◌≡◌, inl, inr, true, false, List, [], ◌∷◌, refl, sym, ap, subst, ◌∙◌, arith, Option, Some, None, slice_get}
+use Rattle.std.proofs.Common.{◌+◌, ◌<◌, ◌≡◌, inl, inr, true, false, List, [], ◌∷◌, refl, sym, ap, subst, ◌∙◌, arith, Option, Some, None, slice_get, length}
 use Rattle.hir_types.specs.declared.ids.ExprOrPatId.TheVariants as node
 use Rattle.infer_result.specs.Words.{Ty, Ty-F, out-Ty, RawType, RawBody, Schedule, unit, filled_within, written_type, erased, IsClosed, statement, arm_pattern, arm, pattern_literal, the_body, inner, IsSchedule, start, end, after, Fits, parts}
 use Rattle.hir_types.specs.declared.ty.Ty.TheVariants as ty
@@ -11,10 +11,11 @@ use Rattle.infer_result.specs.Words.hir_raw.declared.raw.RawStmt.TheVariants as 
 use Rattle.infer_result.specs.Words.hir_raw.declared.raw.RawPath.TheVariants as path
 use Rattle.infer_result.specs.Words.hir_raw.declared.raw.RawExpr.TheVariants as expr
 use Rattle.infer_result.specs.Words.hir_raw.declared.raw.RawPat.TheVariants as pat
-use Rattle.infer_result.specs.Own.{InferenceResult, TypeMismatch, AnyMismatch, PatTy, BindingTy, mismatch, Given, IsOfOther, Demand, ObeysOrMismatch, PatRule, IsTruePatMismatch, IsTrueDiagnostic, IsTruePatDiagnostic, IsBinder, NamesVariant, IsVariantPat, IsMisfit, IsMade, IsTyped}
+use Rattle.infer_result.specs.Own.{empty_table, Column, entry_kind, index, col, IsLong, InferenceResult, TypeMismatch, AnyMismatch, PatTy, BindingTy, mismatch, Given, IsOfOther, Demand, ObeysOrMismatch, PatRule, IsTruePatMismatch, IsTrueDiagnostic, IsTruePatDiagnostic, IsBinder, NamesVariant, IsVariantPat, IsMisfit, IsMade, IsTyped}
+use Rattle.infer_result.specs.Columns as column
 use Rattle.infer_result.specs.declared.modes.BindingMode.TheVariants as mode
 use Rattle.infer_result.proofs.Derived.{typed_by_schedule}
-use Rattle.infer_result.proofs.Samples.Small.{scope_with, e, p, b, w, u8, u16, one_u8, plain, body_with, each_below, each_node, apart_by, asked, comes, one_param, no_other, only, each_entry, each_found, each_placed, nowhere, closed_u8, closed_bool, closed_unit, closed_error, top_uint, top_error, u8_is_no_bool, bool_is_no_error, u8_is_no_u16, u8_differs_bool, none_placed, no_pat_items}
+use Rattle.infer_result.proofs.Samples.Small.{scope_with, e, p, b, w, u8, u16, one_u8, plain, body_with, each_below, each_node, apart_by, asked, comes, one_param, no_other, only, each_entry, TypesHave, all_types_by, each_placed, nowhere, closed_u8, closed_bool, closed_unit, closed_error, top_uint, top_error, u8_is_no_bool, bool_is_no_error, u8_is_no_u16, u8_differs_bool, none_placed, no_pat_items}
 
 abbrev body : RawBody
 body =
@@ -64,25 +65,12 @@ is_schedule = record {
 
 -- the `match` has the type s
 abbrev table_of : Ty → List (Option TypeMismatch) → InferenceResult
-table_of s mismatches = record {
+table_of s mismatches = record (empty_table given.body) {
   type_of_expr = Some ty.Bool ∷ Some ty.Bool ∷ Some ty.Bool ∷ Some u8 ∷ Some ty.Bool ∷ Some s ∷ Some unit ∷ [];
   type_of_pat = Some ty.Bool ∷ Some ty.Bool ∷ Some ty.Bool ∷ [];
-  item_of_pat = None ∷ None ∷ None ∷ [];
   type_of_binding = Some ty.Bool ∷ [];
-  type_of_placeholder = [];
   binding_modes = Some mode.Move ∷ None ∷ None ∷ [];
   expr_mismatches = mismatches;
-  expr_diagnostics = None ∷ None ∷ None ∷ None ∷ None ∷ None ∷ None ∷ [];
-  pat_mismatches = None ∷ None ∷ None ∷ [];
-  pat_diagnostics = None ∷ None ∷ None ∷ [];
-  expr_variants = None ∷ None ∷ None ∷ None ∷ None ∷ None ∷ None ∷ [];
-  pat_variants = None ∷ None ∷ None ∷ [];
-  seen = [];
-  proofs = [];
-  projections = [];
-  expr_gaps = [];
-  pat_gaps = [];
-  general = None;
 }
 
 -- a mismatch at the second arm alone
@@ -108,22 +96,22 @@ match_obeys s = record {
 of_first : (s : Ty) → IsOfOther body (right s) (e 5) (arm 1) u8
 of_first s = record { other = arm 0; expr = e 3; at_part = 3; stands = refl; is_before = omega arith; has = refl }
 
+right_long : (s : Ty) (c : Column) → IsLong given.body (index c) (length (col (right s) c))
+right_long s column.type_of_placeholder = tt
+right_long s _ = refl
+
+right_closed : (s : Ty) → IsClosed s → (c : Column) → TypesHave IsClosed (entry_kind c) (col (right s) c)
+right_closed s closed_s column.type_of_expr = (closed_bool, (closed_bool, (closed_bool, (closed_u8, (closed_bool, (closed_s, (closed_unit, tt)))))))
+right_closed s closed_s column.type_of_pat = (closed_bool, (closed_bool, (closed_bool, tt)))
+right_closed s closed_s column.type_of_binding = (closed_bool, tt)
+right_closed s closed_s column.expr_mismatches = ((closed_u8, closed_bool), tt)
+right_closed s closed_s _ = tt
+
 right_made : (s : Ty) → IsClosed s → IsMade given (right s)
 right_made s closed_s = record {
   shape = record {
-    of_body = record { exprs = refl; pats = refl; bindings = refl; items = refl; modes = refl; mismatches = refl; diagnostics = refl; pat_mismatches = refl; pat_diagnostics = refl; expr_variants = refl; pat_variants = refl };
-    closed = record {
-      exprs = each_entry IsClosed (right s).type_of_expr (closed_bool, (closed_bool, (closed_bool, (closed_u8, (closed_bool, (closed_s, (closed_unit, tt)))))));
-      pats = each_entry IsClosed (right s).type_of_pat (closed_bool, (closed_bool, (closed_bool, tt)));
-      bindings = each_entry IsClosed (right s).type_of_binding (closed_bool, tt);
-      placeholders = λ k s at. absurd (cc);
-      items = each_entry IsClosed (right s).item_of_pat tt;
-      expected = each_entry (λ x. IsClosed x.expected) (right s).expr_mismatches (closed_u8, tt);
-      actual = each_entry (λ x. IsClosed x.actual) (right s).expr_mismatches (closed_bool, tt);
-      pat_expected = each_entry (λ x. IsClosed x.expected) (right s).pat_mismatches tt;
-      pat_actual = each_entry (λ x. IsClosed x.actual) (right s).pat_mismatches tt;
-      found = each_found IsClosed (right s).expr_diagnostics tt;
-    };
+    of_body = record { long = right_long s };
+    closed = all_types_by IsClosed (right s) (right_closed s closed_s);
     modes = λ x. each_placed (λ k m. IsBinder body (p k)) (right s).binding_modes ((b 0, None, refl), tt) x.0;
     placeholders = none_placed given (right s) refl;
     variants = record {

@@ -1,12 +1,13 @@
 -- `fn f() { none(1u8) }` where `fn none()`: the complaint stands at the call, and the argument has its type nevertheless.
-use Rattle.std.proofs.Common.{ℕ, ◌≡◌, inl, inr, List, [], ◌∷◌, refl, sym, ap, subst, arith, Option, Some, None}
+use Rattle.std.proofs.Common.{ℕ, ◌≡◌, inl, inr, List, [], ◌∷◌, refl, sym, ap, subst, arith, Option, Some, None, length}
 use Rattle.infer_result.specs.Words.{ExprId, Ty, RawType, RawFn, unit, IsClosed, with_params, replaced_tuple, filled_within, written_type, fn_signature, at_args}
 use Rattle.hir_types.specs.declared.ids.CallableDefId.TheVariants as callable
 use Rattle.infer_result.specs.Words.hir_raw.declared.raw.RawType.TheVariants as type
-use Rattle.infer_result.specs.Own.{InferenceResult, TypeMismatch, InferenceDiagnostic, NamesVariant, IsVariantPat, HasTy, mismatch, Given, IsCallee, Demand, ObeysOrMismatch, IsTruePatMismatch, IsTrueDiagnostic, IsTruePatDiagnostic, IsMisfit, IsMade, IsTyped}
+use Rattle.infer_result.specs.Own.{empty_table, Column, entry_kind, index, col, IsLong, InferenceResult, TypeMismatch, InferenceDiagnostic, NamesVariant, IsVariantPat, HasTy, mismatch, Given, IsCallee, Demand, ObeysOrMismatch, IsTruePatMismatch, IsTrueDiagnostic, IsTruePatDiagnostic, IsMisfit, IsMade, IsTyped}
+use Rattle.infer_result.specs.Columns as column
 use Rattle.infer_result.specs.declared.diagnostics.InferenceDiagnostic.TheVariants as diagnostic
 use Rattle.infer_result.proofs.Derived.{typed_by_schedule}
-use Rattle.infer_result.proofs.Samples.Small.{e, w, u8, one_u8, function_of, each_below, each_entry, each_found, each_placed, closed_u8, closed_unit, none_placed, no_pat_items}
+use Rattle.infer_result.proofs.Samples.Small.{e, w, u8, one_u8, function_of, each_below, each_entry, TypesHave, all_types_by, each_placed, closed_u8, closed_unit, none_placed, no_pat_items}
 use Rattle.infer_result.proofs.Samples.Calling.{function, calling, schedule, is_schedule, item, closed_item, obeyed, unseen, counted, asked_of_argument}
 
 abbrev types : List RawType
@@ -27,25 +28,10 @@ wrong_count expected found = diagnostic.MismatchedArgCount (e 2) expected found
 
 -- the mismatch at the argument, and the complaint at the call
 abbrev table_of : Option TypeMismatch → Option InferenceDiagnostic → InferenceResult
-table_of at_argument at_call = record {
+table_of at_argument at_call = record (empty_table given.body) {
   type_of_expr = Some (item []) ∷ Some u8 ∷ Some unit ∷ Some unit ∷ [];
-  type_of_pat = [];
-  item_of_pat = [];
-  type_of_binding = [];
-  type_of_placeholder = [];
-  binding_modes = [];
   expr_mismatches = None ∷ at_argument ∷ None ∷ None ∷ [];
   expr_diagnostics = None ∷ None ∷ at_call ∷ None ∷ [];
-  pat_mismatches = [];
-  pat_diagnostics = [];
-  expr_variants = None ∷ None ∷ None ∷ None ∷ [];
-  pat_variants = [];
-  seen = [];
-  proofs = [];
-  projections = [];
-  expr_gaps = [];
-  pat_gaps = [];
-  general = None;
 }
 
 abbrev right : InferenceResult
@@ -73,22 +59,20 @@ true_count = (
   },
 )
 
+right_long : (c : Column) → IsLong given.body (index c) (length (col right c))
+right_long column.type_of_placeholder = tt
+right_long _ = refl
+
+right_closed : (c : Column) → TypesHave IsClosed (entry_kind c) (col right c)
+right_closed column.type_of_expr = (closed_item [] refl, (closed_u8, (closed_unit, (closed_unit, tt))))
+right_closed column.expr_diagnostics = (tt, tt)
+right_closed _ = tt
+
 right_made : IsMade given right
 right_made = record {
   shape = record {
-    of_body = record { exprs = refl; pats = refl; bindings = refl; items = refl; modes = refl; mismatches = refl; diagnostics = refl; pat_mismatches = refl; pat_diagnostics = refl; expr_variants = refl; pat_variants = refl };
-    closed = record {
-      exprs = each_entry IsClosed right.type_of_expr (closed_item [] refl, (closed_u8, (closed_unit, (closed_unit, tt))));
-      pats = λ n s h. absurd (cc);
-      bindings = λ n s h. absurd (cc);
-      placeholders = λ k s at. absurd (cc);
-      items = λ n s h. absurd (cc);
-      expected = each_entry (λ x. IsClosed x.expected) right.expr_mismatches tt;
-      actual = each_entry (λ x. IsClosed x.actual) right.expr_mismatches tt;
-      pat_expected = each_entry (λ x. IsClosed x.expected) right.pat_mismatches tt;
-      pat_actual = each_entry (λ x. IsClosed x.actual) right.pat_mismatches tt;
-      found = each_found IsClosed right.expr_diagnostics (tt, tt);
-    };
+    of_body = record { long = right_long };
+    closed = all_types_by IsClosed right right_closed;
     modes = λ x m at. absurd (cc);
     placeholders = none_placed given right refl;
     variants = record {

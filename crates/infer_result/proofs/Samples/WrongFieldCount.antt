@@ -14,11 +14,12 @@ use Rattle.infer_result.specs.Words.hir_raw.declared.raw.RawPath.TheVariants as 
 use Rattle.infer_result.specs.Words.hir_raw.declared.raw.RawExpr.TheVariants as expr
 use Rattle.infer_result.specs.Words.hir_raw.declared.raw.RawPat.TheVariants as pat
 use Rattle.infer_result.proofs.Words.{has_hole_adt}
-use Rattle.infer_result.specs.Own.{InferenceResult, InferenceDiagnostic, PatTy, BindingTy, Given, IsVariantAt, IsCtorAt, IsPatOf, Demand, ObeysOrMismatch, PatRule, IsTruePatMismatch, IsTrueDiagnostic, IsTruePatDiagnostic, IsBinder, NamesVariant, IsVariantPat, IsMisfit, IsMade, IsTyped}
+use Rattle.infer_result.specs.Own.{empty_table, Column, entry_kind, index, col, IsLong, InferenceResult, InferenceDiagnostic, PatTy, BindingTy, Given, IsVariantAt, IsCtorAt, IsPatOf, Demand, ObeysOrMismatch, PatRule, IsTruePatMismatch, IsTrueDiagnostic, IsTruePatDiagnostic, IsBinder, NamesVariant, IsVariantPat, IsMisfit, IsMade, IsTyped}
+use Rattle.infer_result.specs.Columns as column
 use Rattle.infer_result.specs.declared.diagnostics.InferenceDiagnostic.TheVariants as diagnostic
 use Rattle.infer_result.specs.declared.modes.BindingMode.TheVariants as mode
 use Rattle.infer_result.proofs.Derived.{typed_by_schedule}
-use Rattle.infer_result.proofs.Samples.Small.{e, p, b, w, u8, plain, body_with, each_below, each_node, apart_by, one_param, only, each_entry, each_found, each_placed, closed_u8, closed_unit, none_placed, no_pat_items}
+use Rattle.infer_result.proofs.Samples.Small.{e, p, b, w, u8, plain, body_with, each_below, each_node, apart_by, one_param, only, each_entry, TypesHave, all_types_by, each_placed, closed_u8, closed_unit, none_placed, no_pat_items}
 use Rattle.infer_result.proofs.Samples.Constructors.{v, adt, adt_of, variant_of, scope_of_adt}
 
 abbrev body : RawBody
@@ -80,25 +81,13 @@ wrong_count n expected found = diagnostic.MismatchedTupleStructPatArgCount n exp
 
 -- the type of `x`, and the complaints at the patterns `o`, `Pair(x)` and `x`
 abbrev table_of : Ty → Option InferenceDiagnostic → Option InferenceDiagnostic → Option InferenceDiagnostic → InferenceResult
-table_of x at_o at_pattern at_x = record {
+table_of x at_o at_pattern at_x = record (empty_table given.body) {
   type_of_expr = Some pair ∷ Some unit ∷ [];
   type_of_pat = Some pair ∷ Some pair ∷ Some x ∷ [];
-  item_of_pat = None ∷ None ∷ None ∷ [];
   type_of_binding = Some pair ∷ Some x ∷ [];
-  type_of_placeholder = [];
   binding_modes = Some mode.Move ∷ None ∷ Some mode.Move ∷ [];
-  expr_mismatches = None ∷ None ∷ [];
-  expr_diagnostics = None ∷ None ∷ [];
-  pat_mismatches = None ∷ None ∷ None ∷ [];
   pat_diagnostics = at_o ∷ at_pattern ∷ at_x ∷ [];
-  expr_variants = None ∷ None ∷ [];
   pat_variants = None ∷ Some (v 0) ∷ None ∷ [];
-  seen = [];
-  proofs = [];
-  projections = [];
-  expr_gaps = [];
-  pat_gaps = [];
-  general = None;
 }
 
 abbrev the_complaint : InferenceDiagnostic
@@ -130,22 +119,21 @@ complaint_is_true = (
   record { named = v 0; parts = p 2 ∷ []; is_pat = refl; variant = both; is_variant = refl; is_expected = refl; is_found = refl; differ = λ same. absurd (omega arith) },
 )
 
+right_long : (c : Column) → IsLong given.body (index c) (length (col right c))
+right_long column.type_of_placeholder = tt
+right_long _ = refl
+
+right_closed : (c : Column) → TypesHave IsClosed (entry_kind c) (col right c)
+right_closed column.type_of_expr = (closed_pair, (closed_unit, tt))
+right_closed column.type_of_pat = (closed_pair, (closed_pair, (closed_u8, tt)))
+right_closed column.type_of_binding = (closed_pair, (closed_u8, tt))
+right_closed _ = tt
+
 right_made : IsMade given right
 right_made = record {
   shape = record {
-    of_body = record { exprs = refl; pats = refl; bindings = refl; items = refl; modes = refl; mismatches = refl; diagnostics = refl; pat_mismatches = refl; pat_diagnostics = refl; expr_variants = refl; pat_variants = refl };
-    closed = record {
-      exprs = each_entry IsClosed right.type_of_expr (closed_pair, (closed_unit, tt));
-      pats = each_entry IsClosed right.type_of_pat (closed_pair, (closed_pair, (closed_u8, tt)));
-      bindings = each_entry IsClosed right.type_of_binding (closed_pair, (closed_u8, tt));
-      placeholders = λ k s at. absurd (cc);
-      items = each_entry IsClosed right.item_of_pat tt;
-      expected = each_entry (λ x. IsClosed x.expected) right.expr_mismatches tt;
-      actual = each_entry (λ x. IsClosed x.actual) right.expr_mismatches tt;
-      pat_expected = each_entry (λ x. IsClosed x.expected) right.pat_mismatches tt;
-      pat_actual = each_entry (λ x. IsClosed x.actual) right.pat_mismatches tt;
-      found = each_found IsClosed right.expr_diagnostics tt;
-    };
+    of_body = record { long = right_long };
+    closed = all_types_by IsClosed right right_closed;
     modes = λ x. each_placed (λ k m. IsBinder body (p k)) right.binding_modes ((b 0, None, refl), ((b 1, None, refl), tt)) x.0;
     placeholders = none_placed given right refl;
     variants = record {

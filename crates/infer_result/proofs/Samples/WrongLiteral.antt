@@ -1,6 +1,6 @@
 -- `fn f(c: bool) { match c { 1u8 if 1u8 => (), _ => () }; }`: a pattern that is a literal of another type, whose mismatch stands at
 -- the literal, and a guard that is no `bool`.
-use Rattle.std.proofs.Common.{◌+◌, ◌<◌, ◌≡◌, inl, inr, true, List, [], ◌∷◌, refl, sym, ap, subst, ◌∙◌, arith, Option, Some, None, slice_get}
+use Rattle.std.proofs.Common.{◌+◌, ◌<◌, ◌≡◌, inl, inr, true, List, [], ◌∷◌, refl, sym, ap, subst, ◌∙◌, arith, Option, Some, None, slice_get, length}
 use Rattle.infer_result.specs.Words.{ExprId, Ty, RawType, RawBody, Schedule, unit, filled_within, written_type, erased, IsClosed, arm_pattern, guard, pattern_literal, the_body, inner, IsSchedule, start, end, after, Fits, parts}
 use Rattle.hir_types.specs.declared.ids.ExprOrPatId.TheVariants as node
 use Rattle.hir_types.specs.declared.ty.Ty.TheVariants as ty
@@ -9,10 +9,11 @@ use Rattle.infer_result.specs.Words.hir_raw.declared.raw.RawStmt.TheVariants as 
 use Rattle.infer_result.specs.Words.hir_raw.declared.raw.RawPath.TheVariants as path
 use Rattle.infer_result.specs.Words.hir_raw.declared.raw.RawExpr.TheVariants as expr
 use Rattle.infer_result.specs.Words.hir_raw.declared.raw.RawPat.TheVariants as pat
-use Rattle.infer_result.specs.Own.{InferenceResult, TypeMismatch, HasTy, PatTy, BindingTy, mismatch, Given, Incoming, Demand, ObeysOrMismatch, PatRule, IsTruePatMismatch, IsTrueDiagnostic, IsTruePatDiagnostic, IsBinder, NamesVariant, IsVariantPat, IsMisfit, IsMade, IsTyped}
+use Rattle.infer_result.specs.Own.{empty_table, Column, entry_kind, index, col, IsLong, InferenceResult, TypeMismatch, HasTy, PatTy, BindingTy, mismatch, Given, Incoming, Demand, ObeysOrMismatch, PatRule, IsTruePatMismatch, IsTrueDiagnostic, IsTruePatDiagnostic, IsBinder, NamesVariant, IsVariantPat, IsMisfit, IsMade, IsTyped}
+use Rattle.infer_result.specs.Columns as column
 use Rattle.infer_result.specs.declared.modes.BindingMode.TheVariants as mode
 use Rattle.infer_result.proofs.Derived.{typed_by_schedule}
-use Rattle.infer_result.proofs.Samples.Small.{scope_with, e, p, b, w, u8, one_u8, plain, body_with, each_below, each_node, apart_by, asked, comes, one_param, only, each_entry, each_found, each_placed, closed_u8, closed_bool, closed_unit, u8_is_no_bool, bool_is_no_unit, u8_differs_bool, none_placed, no_pat_items}
+use Rattle.infer_result.proofs.Samples.Small.{scope_with, e, p, b, w, u8, one_u8, plain, body_with, each_below, each_node, apart_by, asked, comes, one_param, only, each_entry, TypesHave, all_types_by, each_placed, closed_u8, closed_bool, closed_unit, u8_is_no_bool, bool_is_no_unit, u8_differs_bool, none_placed, no_pat_items}
 
 abbrev body : RawBody
 body =
@@ -62,25 +63,13 @@ is_schedule = record {
 
 -- the mismatches at the literal of the pattern, at the guard, and at the pattern
 abbrev table_of : Option TypeMismatch → Option TypeMismatch → Option TypeMismatch → InferenceResult
-table_of literal_ guard_ pattern_ = record {
+table_of literal_ guard_ pattern_ = record (empty_table given.body) {
   type_of_expr = Some ty.Bool ∷ Some u8 ∷ Some u8 ∷ Some unit ∷ Some unit ∷ Some unit ∷ Some unit ∷ [];
   type_of_pat = Some ty.Bool ∷ Some u8 ∷ Some ty.Bool ∷ [];
-  item_of_pat = None ∷ None ∷ None ∷ [];
   type_of_binding = Some ty.Bool ∷ [];
-  type_of_placeholder = [];
   binding_modes = Some mode.Move ∷ None ∷ None ∷ [];
   expr_mismatches = None ∷ literal_ ∷ guard_ ∷ None ∷ None ∷ None ∷ None ∷ [];
-  expr_diagnostics = None ∷ None ∷ None ∷ None ∷ None ∷ None ∷ None ∷ [];
   pat_mismatches = None ∷ pattern_ ∷ None ∷ [];
-  pat_diagnostics = None ∷ None ∷ None ∷ [];
-  expr_variants = None ∷ None ∷ None ∷ None ∷ None ∷ None ∷ None ∷ [];
-  pat_variants = None ∷ None ∷ None ∷ [];
-  seen = [];
-  proofs = [];
-  projections = [];
-  expr_gaps = [];
-  pat_gaps = [];
-  general = None;
 }
 
 -- a `bool` is asked for
@@ -107,22 +96,22 @@ is_misfit x has = record { differ = λ same. u8_differs_bool (sym same); actual 
 comes_in : Incoming given right (p 1) ty.Bool
 comes_in = record { parent = inner (node.ExprId (e 5)); at_part = 1; role = arm_pattern (e 0) 0; stands = record { node_is = omega arith; part = refl }; gives = refl }
 
+right_long : (c : Column) → IsLong given.body (index c) (length (col right c))
+right_long column.type_of_placeholder = tt
+right_long _ = refl
+
+right_closed : (c : Column) → TypesHave IsClosed (entry_kind c) (col right c)
+right_closed column.type_of_expr = (closed_bool, (closed_u8, (closed_u8, (closed_unit, (closed_unit, (closed_unit, (closed_unit, tt)))))))
+right_closed column.type_of_pat = (closed_bool, (closed_u8, (closed_bool, tt)))
+right_closed column.type_of_binding = (closed_bool, tt)
+right_closed column.expr_mismatches = ((closed_bool, closed_u8), ((closed_bool, closed_u8), tt))
+right_closed _ = tt
+
 right_made : IsMade given right
 right_made = record {
   shape = record {
-    of_body = record { exprs = refl; pats = refl; bindings = refl; items = refl; modes = refl; mismatches = refl; diagnostics = refl; pat_mismatches = refl; pat_diagnostics = refl; expr_variants = refl; pat_variants = refl };
-    closed = record {
-      exprs = each_entry IsClosed right.type_of_expr (closed_bool, (closed_u8, (closed_u8, (closed_unit, (closed_unit, (closed_unit, (closed_unit, tt)))))));
-      pats = each_entry IsClosed right.type_of_pat (closed_bool, (closed_u8, (closed_bool, tt)));
-      bindings = each_entry IsClosed right.type_of_binding (closed_bool, tt);
-      placeholders = λ k s at. absurd (cc);
-      items = each_entry IsClosed right.item_of_pat tt;
-      expected = each_entry (λ x. IsClosed x.expected) right.expr_mismatches (closed_bool, (closed_bool, tt));
-      actual = each_entry (λ x. IsClosed x.actual) right.expr_mismatches (closed_u8, (closed_u8, tt));
-      pat_expected = each_entry (λ x. IsClosed x.expected) right.pat_mismatches tt;
-      pat_actual = each_entry (λ x. IsClosed x.actual) right.pat_mismatches tt;
-      found = each_found IsClosed right.expr_diagnostics tt;
-    };
+    of_body = record { long = right_long };
+    closed = all_types_by IsClosed right right_closed;
     modes = λ x. each_placed (λ k m. IsBinder body (p k)) right.binding_modes ((b 0, None, refl), tt) x.0;
     placeholders = none_placed given right refl;
     variants = record {

@@ -1,5 +1,5 @@
 -- `fn f(t: (u8,)) { let (a, b): (u8,) = t; }`: the pattern has a part too many, and the mismatch stands at it.
-use Rattle.std.proofs.Common.{◌+◌, ◌<◌, ◌≡◌, inl, inr, List, [], ◌∷◌, refl, sym, subst, ◌∙◌, arith, Option, Some, None, slice_get}
+use Rattle.std.proofs.Common.{◌+◌, ◌<◌, ◌≡◌, inl, inr, List, [], ◌∷◌, refl, sym, subst, ◌∙◌, arith, Option, Some, None, slice_get, length}
 use Rattle.hir_types.specs.declared.ids.ExprOrPatId.TheVariants as node
 use Rattle.infer_result.specs.Words.{Ty, RawType, RawBody, Schedule, unit, IsCarriedType, carried_integer, carried_error, carried_tuple, same_carried, filled_within, written_type, Same, IsClosed, let_pattern, subpattern, the_body, inner, IsSchedule, start, end, after, Fits, parts}
 use Rattle.hir_types.specs.declared.ty.Ty.TheVariants as ty
@@ -11,10 +11,11 @@ use Rattle.infer_result.specs.Words.hir_raw.declared.raw.RawPath.TheVariants as 
 use Rattle.infer_result.specs.Words.hir_raw.declared.raw.RawExpr.TheVariants as expr
 use Rattle.infer_result.specs.Words.hir_raw.declared.raw.RawPat.TheVariants as pat
 use Rattle.infer_result.proofs.Words.{has_hole_tuple}
-use Rattle.infer_result.specs.Own.{InferenceResult, TypeMismatch, PatTy, BindingTy, mismatch, Given, declared, Incoming, Demand, ObeysOrMismatch, PatRule, AllPatsAt, IsTruePatMismatch, IsTrueDiagnostic, IsTruePatDiagnostic, IsBinder, NamesVariant, IsVariantPat, IsMisfit, IsMade, IsTyped}
+use Rattle.infer_result.specs.Own.{empty_table, Column, entry_kind, index, col, IsLong, InferenceResult, TypeMismatch, PatTy, BindingTy, mismatch, Given, declared, Incoming, Demand, ObeysOrMismatch, PatRule, AllPatsAt, IsTruePatMismatch, IsTrueDiagnostic, IsTruePatDiagnostic, IsBinder, NamesVariant, IsVariantPat, IsMisfit, IsMade, IsTyped}
+use Rattle.infer_result.specs.Columns as column
 use Rattle.infer_result.specs.declared.modes.BindingMode.TheVariants as mode
 use Rattle.infer_result.proofs.Derived.{tuple_parts, typed_by_schedule}
-use Rattle.infer_result.proofs.Samples.Small.{scope_with, e, p, b, w, u8, plain, body_with, each_below, each_node, apart_by, comes, one_param, only, each_entry, each_found, each_placed, closed_u8, closed_unit, closed_error, u8_is_no_error, u8_is_no_tuple, none_placed, none_recorded, no_pat_items}
+use Rattle.infer_result.proofs.Samples.Small.{scope_with, e, p, b, w, u8, plain, body_with, each_below, each_node, apart_by, comes, one_param, only, each_entry, TypesHave, all_types_by, each_placed, closed_u8, closed_unit, closed_error, u8_is_no_error, u8_is_no_tuple, none_placed, none_recorded, no_pat_items}
 
 abbrev body : RawBody
 body =
@@ -62,25 +63,12 @@ is_schedule = record {
 
 -- the types of the pattern and of `b`
 abbrev table_of : Ty → Ty → List (Option TypeMismatch) → InferenceResult
-table_of whole second pat_mismatches = record {
+table_of whole second pat_mismatches = record (empty_table given.body) {
   type_of_expr = Some single ∷ Some unit ∷ [];
   type_of_pat = Some single ∷ Some whole ∷ Some u8 ∷ Some second ∷ [];
-  item_of_pat = None ∷ None ∷ None ∷ None ∷ [];
   type_of_binding = Some single ∷ Some u8 ∷ Some second ∷ [];
-  type_of_placeholder = [];
   binding_modes = Some mode.Move ∷ None ∷ Some mode.Move ∷ Some mode.Move ∷ [];
-  expr_mismatches = None ∷ None ∷ [];
-  expr_diagnostics = None ∷ None ∷ [];
   pat_mismatches = pat_mismatches;
-  pat_diagnostics = None ∷ None ∷ None ∷ None ∷ [];
-  expr_variants = None ∷ None ∷ [];
-  pat_variants = None ∷ None ∷ None ∷ None ∷ [];
-  seen = [];
-  proofs = [];
-  projections = [];
-  expr_gaps = [];
-  pat_gaps = [];
-  general = None;
 }
 
 abbrev right : InferenceResult
@@ -110,22 +98,22 @@ block_obeys =
       ends = inl refl;
     }
 
+right_long : (c : Column) → IsLong given.body (index c) (length (col right c))
+right_long column.type_of_placeholder = tt
+right_long _ = refl
+
+right_closed : (c : Column) → TypesHave IsClosed (entry_kind c) (col right c)
+right_closed column.type_of_expr = (closed_single, (closed_unit, tt))
+right_closed column.type_of_pat = (closed_single, (closed_pair, (closed_u8, (closed_error, tt))))
+right_closed column.type_of_binding = (closed_single, (closed_u8, (closed_error, tt)))
+right_closed column.pat_mismatches = ((closed_single, closed_pair), tt)
+right_closed _ = tt
+
 right_made : IsMade given right
 right_made = record {
   shape = record {
-    of_body = record { exprs = refl; pats = refl; bindings = refl; items = refl; modes = refl; mismatches = refl; diagnostics = refl; pat_mismatches = refl; pat_diagnostics = refl; expr_variants = refl; pat_variants = refl };
-    closed = record {
-      exprs = each_entry IsClosed right.type_of_expr (closed_single, (closed_unit, tt));
-      pats = each_entry IsClosed right.type_of_pat (closed_single, (closed_pair, (closed_u8, (closed_error, tt))));
-      bindings = each_entry IsClosed right.type_of_binding (closed_single, (closed_u8, (closed_error, tt)));
-      placeholders = λ k s at. absurd (cc);
-      items = each_entry IsClosed right.item_of_pat tt;
-      expected = each_entry (λ x. IsClosed x.expected) right.expr_mismatches tt;
-      actual = each_entry (λ x. IsClosed x.actual) right.expr_mismatches tt;
-      pat_expected = each_entry (λ x. IsClosed x.expected) right.pat_mismatches (closed_single, tt);
-      pat_actual = each_entry (λ x. IsClosed x.actual) right.pat_mismatches (closed_pair, tt);
-      found = each_found IsClosed right.expr_diagnostics tt;
-    };
+    of_body = record { long = right_long };
+    closed = all_types_by IsClosed right right_closed;
     modes = λ x. each_placed (λ k m. IsBinder body (p k)) right.binding_modes ((b 0, None, refl), ((b 1, None, refl), ((b 2, None, refl), tt))) x.0;
     placeholders = none_placed given right refl;
     variants = record {

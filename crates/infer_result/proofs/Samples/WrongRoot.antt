@@ -1,13 +1,14 @@
 -- `fn f() -> u8 { true }`: its table with the mismatch at `true` is typed; tables with another mismatch, or none, are not.
-use Rattle.std.proofs.Common.{◌+◌, ◌<◌, ◌≡◌, inl, inr, true, List, [], ◌∷◌, refl, sym, ap, ◌∙◌, arith, Option, Some, None}
+use Rattle.std.proofs.Common.{◌+◌, ◌<◌, ◌≡◌, inl, inr, true, List, [], ◌∷◌, refl, sym, ap, ◌∙◌, arith, Option, Some, None, length}
 use Rattle.hir_types.specs.declared.ids.ExprOrPatId.TheVariants as node
 use Rattle.infer_result.specs.Words.{Ty, RawBody, Schedule, erased, IsClosed, root, tail, the_body, inner, IsSchedule, start, end, after, Fits, parts}
 use Rattle.hir_types.specs.declared.ty.Ty.TheVariants as ty
 use Rattle.infer_result.specs.Words.hir_raw.declared.raw.RawLiteral.TheVariants as literal
 use Rattle.infer_result.specs.Words.hir_raw.declared.raw.RawExpr.TheVariants as expr
-use Rattle.infer_result.specs.Own.{InferenceResult, TypeMismatch, NamesVariant, IsVariantPat, mismatch, Given, Demand, ObeysOrMismatch, IsTruePatMismatch, IsTrueDiagnostic, IsTruePatDiagnostic, IsMisfit, IsMade, IsTyped}
+use Rattle.infer_result.specs.Own.{empty_table, Column, entry_kind, index, col, IsLong, InferenceResult, TypeMismatch, NamesVariant, IsVariantPat, mismatch, Given, Demand, ObeysOrMismatch, IsTruePatMismatch, IsTrueDiagnostic, IsTruePatDiagnostic, IsMisfit, IsMade, IsTyped}
+use Rattle.infer_result.specs.Columns as column
 use Rattle.infer_result.proofs.Derived.{typed_by_schedule}
-use Rattle.infer_result.proofs.Samples.Small.{scope_with, e, u8, body_of, each_below, each_node, apart_by, asked, only, each_entry, each_found, each_placed, closed_u8, closed_bool, u8_is_no_bool, u8_differs_bool, bool_is_no_error, none_placed, no_pat_items}
+use Rattle.infer_result.proofs.Samples.Small.{scope_with, e, u8, body_of, each_below, each_node, apart_by, asked, only, each_entry, TypesHave, all_types_by, each_placed, closed_u8, closed_bool, u8_is_no_bool, u8_differs_bool, bool_is_no_error, none_placed, no_pat_items}
 
 abbrev body : RawBody
 body = body_of (expr.Lit (literal.Bool true) ∷ expr.Block None [] (Some (e 0)) ∷ []) 1 [] []
@@ -31,25 +32,9 @@ is_schedule = record {
 }
 
 abbrev table_of : List (Option Ty) → List (Option TypeMismatch) → InferenceResult
-table_of types mismatches = record {
+table_of types mismatches = record (empty_table given.body) {
   type_of_expr = types;
-  type_of_pat = [];
-  item_of_pat = [];
-  type_of_binding = [];
-  type_of_placeholder = [];
-  binding_modes = [];
   expr_mismatches = mismatches;
-  expr_diagnostics = None ∷ None ∷ [];
-  pat_mismatches = [];
-  pat_diagnostics = [];
-  expr_variants = None ∷ None ∷ [];
-  pat_variants = [];
-  seen = [];
-  proofs = [];
-  projections = [];
-  expr_gaps = [];
-  pat_gaps = [];
-  general = None;
 }
 
 abbrev right : InferenceResult
@@ -58,22 +43,20 @@ right = table_of (Some ty.Bool ∷ Some u8 ∷ []) (Some (mismatch u8 ty.Bool) �
 demanded : Demand given right (e 0) u8
 demanded = inl (record { parent = inner (node.ExprId (e 1)); at_part = 0; role = tail; stands = record { node_is = omega arith; part = refl }; asks = refl })
 
+right_long : (c : Column) → IsLong given.body (index c) (length (col right c))
+right_long column.type_of_placeholder = tt
+right_long _ = refl
+
+right_closed : (c : Column) → TypesHave IsClosed (entry_kind c) (col right c)
+right_closed column.type_of_expr = (closed_bool, (closed_u8, tt))
+right_closed column.expr_mismatches = ((closed_u8, closed_bool), tt)
+right_closed _ = tt
+
 right_made : IsMade given right
 right_made = record {
   shape = record {
-    of_body = record { exprs = refl; pats = refl; bindings = refl; items = refl; modes = refl; mismatches = refl; diagnostics = refl; pat_mismatches = refl; pat_diagnostics = refl; expr_variants = refl; pat_variants = refl };
-    closed = record {
-      exprs = each_entry IsClosed right.type_of_expr (closed_bool, (closed_u8, tt));
-      pats = λ n s h. absurd (cc);
-      bindings = λ n s h. absurd (cc);
-      placeholders = λ k s at. absurd (cc);
-      items = λ n s h. absurd (cc);
-      expected = each_entry (λ x. IsClosed x.expected) right.expr_mismatches (closed_u8, tt);
-      actual = each_entry (λ x. IsClosed x.actual) right.expr_mismatches (closed_bool, tt);
-      pat_expected = each_entry (λ x. IsClosed x.expected) right.pat_mismatches tt;
-      pat_actual = each_entry (λ x. IsClosed x.actual) right.pat_mismatches tt;
-      found = each_found IsClosed right.expr_diagnostics tt;
-    };
+    of_body = record { long = right_long };
+    closed = all_types_by IsClosed right right_closed;
     modes = λ x m at. absurd (cc);
     placeholders = none_placed given right refl;
     variants = record {

@@ -14,6 +14,7 @@ use Rattle.infer_ctx.proofs.Expressions.{comes_within, told_entered}
 use Rattle.infer_obligations.specs.Registering.{asked_for, Registers}
 use Rattle.infer_expr.proofs.Inner.{own_expr, own_registered}
 use Rattle.infer_expr.proofs.expr.+infer.Goals as goal
+use Rattle.infer_result.specs.Columns as column
 
 pub infer_expr_of_kind-requires-clause-infers : goal.infer_expr_of_kind-requires-clause-infers
 infer_expr_of_kind-requires-clause-infers t c =
@@ -26,6 +27,10 @@ infer_expr_of_kind-requires-clause-infers t c =
 pub infer_expr_of_kind-requires-clause-before : goal.infer_expr_of_kind-requires-clause-before
 infer_expr_of_kind-requires-clause-before t c =
     subst (λ k. Within (given_of c.args.given.now) (schedule_of c.args.given.now) c.args.tgt_expr (expected_type c.args.expected) k) (sym c.enter.ensures) (comes_within _ _ _ _ _ c.requires)
+
+-- there is a place for the type
+pub write_expr_ty-requires : goal.write_expr_ty-requires
+write_expr_ty-requires t c = rw (c.in_ok-ty.ensures.follows.of_body.long column.type_of_expr) c.requires.within
 
 -- what is found out once the type is recorded
 pub register_needs-requires-clause-holes : goal.register_needs-requires-clause-holes

@@ -6,7 +6,7 @@ use Rattle.infer_pat.specs.Words.{inner, IsSound, IsFine, IsFineExpectation, giv
 use Rattle.infer_pat.specs.Words.hir_raw.declared.raw.RawPat.TheVariants as pat
 use Rattle.infer_pat.proofs.Words.{sound_entered, every_from, fine_expectation_grown, fine_tuple}
 use Rattle.infer_pat.specs.Own.{PatDone, IsGivenOrNew}
-use Rattle.infer_pat.proofs.PatWalk.{wild_walked, bind_walked, bind_within}
+use Rattle.infer_pat.proofs.PatWalk.{wild_walked, bind_walked, pat_within, mode_within, bind_within}
 use Rattle.infer_pat.proofs.TuplePats.{tuple_pat_begun, begins_tuple_pat, comes_to_part, goes_past_part, ends_tuple_pat, hands_parts}
 use Rattle.infer_pat.proofs.CtorPatWalk.{ctor_pat_begun, begun_clock, begins_ctor_pat, comes_to_ctor_part, goes_past_ctor_part, ends_ctor_pat}
 use Rattle.infer_pat.proofs.pat.+pats.Goals as goal
@@ -16,6 +16,24 @@ infer_pat-given_or_new-requires-clause-sound t c = subst (λ k. IsSound (scope_i
 
 pub infer_pat-given_or_new-requires-in-Bind-clause-sound : goal.infer_pat-given_or_new-requires-in-Bind-clause-sound
 infer_pat-given_or_new-requires-in-Bind-clause-sound t c = subst (λ k. IsSound (scope_in c.args.given.now) k) (sym c.enter-in-Bind.ensures) (sound_entered _ c.requires.state.sound)
+
+pub infer_pat-write_pat_ty-requires : goal.infer_pat-write_pat_ty-requires
+infer_pat-write_pat_ty-requires t c =
+    let made : IsGivenOrNew (scope_in c.args.given.now) c.args.expected c.in_ok-ty-in-Wild.ty (entered c.args.context.now) c.given_or_new.new.context
+    = subst (λ k. IsGivenOrNew (scope_in c.args.given.now) c.args.expected c.in_ok-ty-in-Wild.ty k c.given_or_new.new.context) c.enter.ensures c.in_ok-ty-in-Wild.ensures in
+    pat_within (given_of c.args.given.now) (schedule_of c.args.given.now) c.args.pat c.args.expected c.in_ok-ty-in-Wild.ty c.args.context.now c.given_or_new.new.context c.requires made
+
+pub infer_pat-infer_bind_pat-requires-clause-modes : goal.infer_pat-infer_bind_pat-requires-clause-modes
+infer_pat-infer_bind_pat-requires-clause-modes t c =
+    let made : IsGivenOrNew (scope_in c.args.given.now) c.args.expected c.in_ok-ty-in-Bind.ty (entered c.args.context.now) c.given_or_new-in-Bind.new.context
+    = subst (λ k. IsGivenOrNew (scope_in c.args.given.now) c.args.expected c.in_ok-ty-in-Bind.ty k c.given_or_new-in-Bind.new.context) c.enter-in-Bind.ensures c.in_ok-ty-in-Bind.ensures in
+    mode_within (given_of c.args.given.now) (schedule_of c.args.given.now) c.args.pat c.args.expected c.in_ok-ty-in-Bind.ty c.args.context.now c.given_or_new-in-Bind.new.context c.requires made
+
+pub infer_pat-infer_bind_pat-requires-clause-pats : goal.infer_pat-infer_bind_pat-requires-clause-pats
+infer_pat-infer_bind_pat-requires-clause-pats t c =
+    let made : IsGivenOrNew (scope_in c.args.given.now) c.args.expected c.in_ok-ty-in-Bind.ty (entered c.args.context.now) c.given_or_new-in-Bind.new.context
+    = subst (λ k. IsGivenOrNew (scope_in c.args.given.now) c.args.expected c.in_ok-ty-in-Bind.ty k c.given_or_new-in-Bind.new.context) c.enter-in-Bind.ensures c.in_ok-ty-in-Bind.ensures in
+    pat_within (given_of c.args.given.now) (schedule_of c.args.given.now) c.args.pat c.args.expected c.in_ok-ty-in-Bind.ty c.args.context.now c.given_or_new-in-Bind.new.context c.requires made
 
 pub infer_pat-infer_bind_pat-requires-clause-bindings : goal.infer_pat-infer_bind_pat-requires-clause-bindings
 infer_pat-infer_bind_pat-requires-clause-bindings t c =

@@ -7,6 +7,19 @@ use Rattle.infer_pat.specs.Own.{PartsCounted}
 use Rattle.infer_pat.proofs.CtorPatWalk.{counted_follows, own_adt_fine, ctor_demanded, item_is_fine, item_read, no_item_read}
 use Rattle.infer_pat.proofs.PathWalk.{ctor_holed}
 use Rattle.infer_pat.proofs.pat.demand_ctor.Goals as goal
+use Rattle.infer_pat.specs.Words.infer_result.Columns as column
+
+pub demand_pat_ty-requires-clause-of_body : goal.demand_pat_ty-requires-clause-of_body
+demand_pat_ty-requires-clause-of_body c =
+    let g = given_of c.args.given.now in
+    let x = c.requires.named in
+    let y = c.variant-item.result.now in
+    let old = c.args.context.now in
+    let new = c.fresh_args_for_item.new.context in
+    let h = ctor_holed g c.args.variant x y c.adt.result.now c.len-params.result c.in_ok-arity.arity c.types.result.now c.in_ok-args.args old new c.variant-item.ensures c.adt.ensures c.len-params.ensures c.types.ensures c.in_ok-arity.ensures c.in_ok-args.ensures in
+    let body : IsOfBody g.body new.result = subst (λ r. IsOfBody g.body r) (sym h.fresh.made.result) c.requires.of_body in
+    let counted = counted_follows g c.args.pat _ _ new c.count_parts.new.context body h.fresh.made.sound c.count_parts.ensures in
+    counted.of_body
 
 pub demand_pat_ty-requires-clause-sound : goal.demand_pat_ty-requires-clause-sound
 demand_pat_ty-requires-clause-sound c =
@@ -63,7 +76,7 @@ returns-then-arity-params c =
     ctor_demanded g c.args.variant x y h.same c.in_ok-args.args old new h.fresh c.in_ok-own.own own c.args.pat c.args.parts c.in_ok-fields.fields c.args.expected c.count_parts.new.context typed typed fields parts demanded (no_item_read g c.args.variant x y h.same c.in_ok-args.args old new h.fresh c.args.pat typed no_more)
 
 pub write_pat_item-requires : goal.write_pat_item-requires
-write_pat_item-requires c = rw c.in_ok-demand_pat_ty.ensures.follows.of_body.items c.requires.within
+write_pat_item-requires c = rw (c.in_ok-demand_pat_ty.ensures.follows.of_body.long column.item_of_pat) c.requires.within
 
 pub read_pat-requires-clause-of_body : goal.read_pat-requires-clause-of_body
 read_pat-requires-clause-of_body c =

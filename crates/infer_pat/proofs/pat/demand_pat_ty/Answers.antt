@@ -4,9 +4,20 @@ use Rattle.infer_pat.specs.Words.infer_ctx.Context.{with_pat_ty}
 use Rattle.infer_pat.specs.Own.{PatDemanded}
 use Rattle.infer_pat.proofs.PatHoles.{demanded_nothing, demanded_unified, demanded_refused}
 use Rattle.infer_pat.proofs.pat.demand_pat_ty.Goals as goal
+use Rattle.infer_pat.specs.Words.infer_result.Columns as column
 
 pub unify-requires-clause-left : goal.unify-requires-clause-left
 unify-requires-clause-left c = subst (λ x. IsFineExpectation (scope_in c.args.given.now) c.args.context.now.goals.table x) c.in-Some.is c.requires.fine
+
+-- there is a place for the type
+pub write_pat_ty-requires : goal.write_pat_ty-requires
+write_pat_ty-requires c = rw (c.in_ok-unify-in-Some.ensures.unified.binds.follows.of_body.long column.type_of_pat) c.requires.within
+
+pub write_pat_ty-requires-in-Some : goal.write_pat_ty-requires-in-Some
+write_pat_ty-requires-in-Some c = rw c.note_pat_mismatch.ensures (rw (c.in_ok-unify-in-Some.ensures.unified.binds.follows.of_body.long column.type_of_pat) c.requires.within)
+
+pub write_pat_ty-requires-in-None : goal.write_pat_ty-requires-in-None
+write_pat_ty-requires-in-None c = rw (c.requires.of_body.long column.type_of_pat) c.requires.within
 
 pub returns-then-branch : goal.returns-then-branch
 returns-then-branch c =

@@ -1,8 +1,10 @@
 use Rattle.std.proofs.Common.{refl, sym, subst}
-use Rattle.infer_pat.specs.Words.{given_of, schedule_of, expected_type, entered, Before, OwnDone}
+use Rattle.infer_pat.specs.Words.{given_of, scope_in, schedule_of, expected_type, entered, Before, OwnDone, Grew, IsFine, IsFineExpectation, InferenceContext}
+use Rattle.infer_pat.proofs.Words.{fine_grown}
 use Rattle.infer_pat.specs.Own.{PatDone}
 use Rattle.infer_pat.proofs.PatWalk.{FitsExpected, comes_to_lit, lit_walked}
 use Rattle.infer_pat.proofs.pat.infer_lit_pat.Goals as goal
+use Rattle.infer_pat.specs.Words.infer_result.Columns as column
 
 pub infer_pat_literal-requires-clause-before : goal.infer_pat_literal-requires-clause-before
 infer_pat_literal-requires-clause-before c =
@@ -12,6 +14,24 @@ infer_pat_literal-requires-clause-before c =
 
 pub infer_pat_literal-requires-clause-is : goal.infer_pat_literal-requires-clause-is
 infer_pat_literal-requires-clause-is c = c.requires.before.ready.law.literals c.args.pat.0 c.args.expr c.requires.is
+
+pub demand_coerce-requires-clause-within : goal.demand_coerce-requires-clause-within
+demand_coerce-requires-clause-within c = (comes_to_lit _ _ _ c.args.expr _ _ c.requires.before c.requires.is).within
+
+pub demand_coerce-requires-clause-target : goal.demand_coerce-requires-clause-target
+demand_coerce-requires-clause-target c =
+    let old = c.args.context.now in
+    let last = c.infer_pat_literal.new.context in
+    let grew : Grew old.goals.table last.goals.table = subst (λ (k : InferenceContext). Grew k.goals.table last.goals.table) c.enter.ensures c.in_ok-ty.ensures.follows.grew in
+    let fine : IsFine (scope_in c.args.given.now) old.goals.table c.in-Some.target = subst (λ x. IsFineExpectation (scope_in c.args.given.now) old.goals.table x) c.in-Some.is c.requires.before.fine in
+    fine_grown (scope_in c.args.given.now) old.goals.table last.goals.table c.in-Some.target grew fine
+
+-- there is a place for the type
+pub write_pat_ty-requires : goal.write_pat_ty-requires
+write_pat_ty-requires c = rw (c.in_ok-demand_coerce-in-Some.ensures.follows.of_body.long column.type_of_pat) c.requires.before.within
+
+pub write_pat_ty-requires-in-None : goal.write_pat_ty-requires-in-None
+write_pat_ty-requires-in-None c = rw (c.in_ok-ty.ensures.follows.of_body.long column.type_of_pat) c.requires.before.within
 
 pub returns-in-Some : goal.returns-in-Some
 returns-in-Some c =

@@ -3,10 +3,15 @@ use Rattle.infer_pat.specs.Words.{given_of, schedule_of, expected_type, with_exp
 use Rattle.infer_pat.proofs.Words.{comes_within, own_done}
 use Rattle.infer_pat.proofs.PatLiterals.{told_literal}
 use Rattle.infer_pat.proofs.pat.infer_pat_literal.Goals as goal
+use Rattle.infer_pat.specs.Words.infer_result.Columns as column
 
 pub infer_literal-requires-clause-before : goal.infer_literal-requires-clause-before
 infer_literal-requires-clause-before c =
     subst (λ k. Within (given_of c.args.given.now) (schedule_of c.args.given.now) c.args.expr (expected_type c.args.expected) k) (sym c.enter.ensures) (comes_within _ _ _ _ _ c.requires.before)
+
+-- there is a place for the type
+pub write_expr_ty-requires : goal.write_expr_ty-requires
+write_expr_ty-requires c = rw (c.in_ok-ty.ensures.kind.follows.of_body.long column.type_of_expr) c.requires.before.within
 
 pub returns : goal.returns
 returns c =

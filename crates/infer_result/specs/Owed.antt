@@ -1,0 +1,2 @@
+-- What rules say and no proof shows yet. A rule names it by a definition of this file, which is `Unit` until it is shown; then it says
+-- what it is for, and who used it proves it. Nothing is owed at present.
