@@ -2,8 +2,8 @@
 """Shows what crates.txt costs the gate: for each crate the ways down the list from it, and the crates listed that it does not name.
 
 Where a library is built, `rt` sums up all that it is made of, twice, by a walk that comes to a crate once for each way down to it: some seven
-milliseconds each. Where every crate lists all those below it, the ways double with each layer. So a crate lists the layer below alone, and
-takes names of crates further down from there, where they are passed on (`specs/Words.antt`, `proofs/Words.antt`, `pub use` in its root).
+milliseconds each. Where every crate lists all those below it, the ways double with each layer. So a crate lists those alone that its code
+names; definitions and proofs reach names of crates further down through these (`specs/Words.antt`, `proofs/Words.antt`).
 
 --check: prints nothing but what is wrong, and ends with status 1 if a crate lists one that it does not name, or there are too many ways.
 """

@@ -4,7 +4,7 @@ one of its statuses.
 
 Bytes are flipped, cut out and doubled, keys dropped, numbers changed, lists cut, entries of lists put in the place of others. Of each
 example the last function is asked for, and of the text with all kinds any; in a session all functions and one more, the last of them
-twice. Prints how often each status came of either, and fails at a crash, a hang (10 seconds), a status that is none of the program's,
+twice. Prints how often each status came of either, and fails at a crash, a hang (ten minutes), a status that is none of the program's,
 9 in a session, output at a status that writes none, and a last line that isn't the command's.
 """
 import argparse
@@ -149,7 +149,7 @@ def main():
 def attempt(path, words, text):
     """The status of a run, and what it wrote on both outputs."""
     try:
-        done = subprocess.run([path] + words, input=text, capture_output=True, timeout=10)
+        done = subprocess.run([path] + words, input=text, capture_output=True, timeout=600)
         return done.returncode, done.stdout, done.stderr
     except subprocess.TimeoutExpired:
         return "hang", b"", b""

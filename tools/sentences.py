@@ -10,14 +10,19 @@ A case is a block of lines, each a word and what follows it:
   made NAME         or one that is made here (MADE)
   set PATH VALUE    the value of JSON that stands at a path, as bodies[0].root; a list is added to at its length
   drop PATH         what is taken out of it
+  each PATH         as `set`, with each of the values that stand below it, a line each and indented; a case for each
+  nest exprs        body 0 is 256 levels over a leaf, of each of the kinds that stand below it so, "in" being the level below, "leaf"
+                    a further expression, "wild" a pattern; or `nest pats`, levels of patterns
   fails END         `input` or `output`, which fails (not asked of a build without proof that is not kept)
-  says N SENTENCE   the status, and what is said
-A line that begins with # is passed over.
+  says N SENTENCE   the status, and what is said; {} in it is what stands behind the value of an `each` or a `nest` on its line,
+                    and {value} is the value
+The text "2^20+1 ARG" in a value stands for a list of so many arguments. A line that begins with # is passed over.
 Usage: tools/sentences.py [--program PATH | --unproved] [--print]
   --print writes what the program says in the place of the stored sentences, and compares nothing.
 Build the program first: cd crates/infer_tool && rt run -- table fn 0 < ../../examples/first_run.json
 """
 import argparse
+import copy
 import json
 import os
 import re
@@ -110,12 +115,66 @@ def drop(facts, path):
     del facts[last]
 
 
+def filled(value):
+    """A value in which each list of arguments that is too long is written out."""
+    if value == "2^20+1 ARG":
+        return [["t", 0]] * (2 ** 20 + 1)
+    return [filled(part) for part in value] if isinstance(value, list) else value
+
+
+def nested_in(facts, key, kind):
+    """Makes body 0 256 levels of a kind, in a `let` where it is a pattern. The innermost leaf is number 0 of its list."""
+    leaves = {"exprs": ["lit", ["bool", True]], "pats": "wild"}
+    nodes = {"exprs": [], "pats": []}
+
+    def leaf(of):
+        nodes[of].append(leaves[of])
+        return len(nodes[of]) - 1
+
+    def level(value, inner):
+        if isinstance(value, list):
+            return [level(part, inner) for part in value]
+        if value == "in":
+            return inner
+        return leaf({"leaf": "exprs", "wild": "pats"}[value]) if value in ("leaf", "wild") else value
+
+    inner = leaf(key)
+    for _ in range(256 if key == "exprs" else 255):
+        nodes[key].append(level(kind, inner))
+        inner = len(nodes[key]) - 1
+    if key == "pats":
+        nodes["exprs"].append(["block", None, [["let", inner, None, None, None]], None])
+        inner = len(nodes["exprs"]) - 1
+    facts["bodies"][0].update(nodes, root=inner, bindings=[])
+
+
 class Case:
     """A case: the words, the text, the status and the sentence; `at` is the line that it begins at."""
 
     def __init__(self, at):
         self.at, self.words, self.text, self.facts = at, ["table", "fn", "0"], b"", None
-        self.status, self.sentence, self.fails = None, None, None
+        self.status, self.sentence, self.fails, self.fills = None, None, None, {}
+
+    def of_lines(self, lines):
+        """The cases of these lines, each a number, a word and what follows it; one that has values below it is a case for each."""
+        cases = [self]
+        for at, word, rest, below in lines:
+            if below:
+                cases = [copy.deepcopy(case).at_value(word, rest, *value) for case in cases for value in below]
+            else:
+                for case in cases:
+                    case.read(word, rest)
+        return cases
+
+    def at_value(self, word, rest, at, line):
+        """The case in which a value stands at a path or is nested; `{}` is what stands behind it on its line."""
+        value, end = json.JSONDecoder().raw_decode(line)
+        self.at, self.fills = at, {"{}": line[end:].strip(), "{value}": json.dumps(value, separators=(",", ":"))}
+        if word == "nest":
+            nested_in(self.facts, rest, value)
+        else:
+            put(self.facts, rest, filled(value))
+        return self
 
     def read(self, word, rest):
         if word == "words":
@@ -130,7 +189,7 @@ class Case:
             self.text = MADE[rest]().encode()
         elif word == "set":
             path, _, value = rest.partition(" ")
-            put(self.facts, path, json.loads(value))
+            put(self.facts, path, filled(json.loads(value)))
         elif word == "drop":
             drop(self.facts, rest)
         elif word == "fails":
@@ -138,6 +197,8 @@ class Case:
         elif word == "says":
             status, _, self.sentence = rest.partition(" ")
             self.status = int(status)
+            for hole, text in self.fills.items():
+                self.sentence = self.sentence.replace(hole, text)
         else:
             sys.exit("%s:%d: no line begins with %s" % (CASES, self.at, word))
 
@@ -146,20 +207,18 @@ class Case:
 
 
 def read_cases():
-    cases = []
-    is_open = False
-    for at, line in enumerate(open(CASES, encoding="utf-8"), 1):
+    """The cases of the file."""
+    cases, lines = [], []
+    for at, line in enumerate([*open(CASES, encoding="utf-8"), "\n"], 1):
         line = line.rstrip("\n")
-        if line.startswith("#"):
-            continue
-        if not line:
-            is_open = False
-            continue
-        if not is_open:
-            cases.append(Case(at))
-            is_open = True
-        word, _, rest = line.partition(" ")
-        cases[-1].read(word, rest)
+        if line.startswith("    "):
+            lines[-1][-1].append((at, line.strip()))
+        elif line and not line.startswith("#"):
+            word, _, rest = line.partition(" ")
+            lines.append((at, word, rest, []))
+        elif not line and lines:
+            cases += Case(lines[0][0]).of_lines(lines)
+            lines = []
     return cases
 
 

@@ -24,10 +24,10 @@ impl fmt::Display for WrongUse {
             WrongUse::Item(place) => {
                 write!(
                     f,
-                    "a `_` stands in it, and it is the type of `{place}`, not of a `let`"
+                    "a `_` stands in it, and it is the type of `{place}`, which is in no body"
                 )
             }
-            WrongUse::Times(0) => write!(f, "a `_` stands in it, and no `let` uses it"),
+            WrongUse::Times(0) => write!(f, "a `_` stands in it, and no body uses it"),
             WrongUse::Times(times) => {
                 write!(f, "a `_` stands in it, and it is used {times} times")
             }

@@ -365,8 +365,15 @@ fn of_head(facts: &Value, place: Place, body: &Value) -> Option<(Place, WrongId)
             return Some((place.item("params", k), wrong));
         }
     }
-    let wrong = beyond(Named::Expr, body.get("root"), list(body, "exprs").len())?;
-    Some((place.key("root"), wrong))
+    if let Some(wrong) = beyond(Named::Expr, body.get("root"), list(body, "exprs").len()) {
+        return Some((place.key("root"), wrong));
+    }
+    let wrong = beyond(
+        Named::Binding,
+        body.get("self"),
+        list(body, "bindings").len(),
+    )?;
+    Some((place.key("self"), wrong))
 }
 
 fn of_body(
