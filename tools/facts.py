@@ -16,16 +16,20 @@ import re
 import sys
 
 from body_facts import BodyWriter
+from crate_head import head_of, integer_repr
 from crate_items import IMPLIED, Bound, Items, Lists, Writer, trait_of
+from every_facts import EveryFacts
+from every_index import Index
 from hir_tree import OWN, OtherShape, identifier, name_of, owners_in, span_of
 from part_facts import PartFacts
 from rustc import TRIED, NoRustc, rustc, version
 from sources import Sources
 
 EDITIONS = [2015, 2018, 2021, 2024]
-CORE = os.path.join(os.path.dirname(os.path.abspath(__file__)), "core.rs")
-LIMITS = [8, 1000, 8, 10]
-REPR = r"\brepr\s*\([^)]*\b([iu](?:8|16|32|64|128|size))\b"
+FOLDER = os.path.dirname(os.path.abspath(__file__))
+CORE = os.path.join(FOLDER, "core.rs")
+LIBRARY = os.path.join(FOLDER, "library.rs")
+OF_LIBRARY = re.compile(r"~ library(\[\w*\])::(core|alloc|std)(?=::|\))")
 LANG = r'\blang\s*=\s*"(sized|copy|clone)"'
 
 # A function with a body in the source: its path in the crate (see `name_of`), its Function, its number among the facts' functions or
@@ -146,9 +150,7 @@ class CrateFacts:
 
     def head(self):
         """The facts that are of no item, and those of kinds that are not carried."""
-        features = set(re.findall(r"\w+", " ".join(self.sources.attributes_of_file(self.path))))
-        return {"profile": 1, "edition": self.edition, "never_fallback": "never_type_fallback" in features,
-                "new_range": "new_range" in features, "limits": LIMITS, "consts": [], "statics": [], "opaques": []}
+        return {**head_of(self.sources, self.path, self.edition), "consts": [], "statics": [], "opaques": []}
 
     def all_facts(self):
         functions = [self.function(self.items.functions[item], self.writer(self.items.functions[item], self.lists))
@@ -280,12 +282,7 @@ class CrateFacts:
 
     def repr(self, adt):
         """The integer type that an enum is said to be represented by."""
-        if adt.kind == "enum" and adt.span is not None and not adt.span.context:
-            for attribute in self.sources.attributes_before(adt.span):
-                found = re.search(REPR, attribute)
-                if found:
-                    return found.group(1)
-        return None
+        return integer_repr(self.sources, adt.span) if adt.kind == "enum" else None
 
 
 def text_of(facts):
@@ -317,17 +314,28 @@ def core_owners():
     return owners_in(tree_of(CORE, 2021, "core").text)
 
 
-def facts_of(path, edition, in_part=False):
-    """The CrateFacts of a file."""
+@functools.cache
+def library():
+    """The Index of the standard library's crates."""
+    index = Index()
+    text = tree_of(LIBRARY, 2021, "library").text
+    index.read(owners_in(OF_LIBRARY.sub(lambda found: "~ " + found.group(2) + found.group(1), text)))
+    return index
+
+
+def facts_of(path, edition, in_part=False, every_kind=False):
+    """The CrateFacts of a file, or its EveryFacts."""
     try:
-        return facts_of_tree(tree_of(path, edition), in_part)
+        return facts_of_tree(tree_of(path, edition), in_part, every_kind)
     except (NoRustc, UnicodeDecodeError) as why:
         raise NoFacts(why) from None
 
 
-def facts_of_tree(tree, in_part):
-    """The CrateFacts of a Tree."""
+def facts_of_tree(tree, in_part, every_kind=False):
+    """The CrateFacts of a Tree, or its EveryFacts."""
     try:
+        if every_kind:
+            return EveryFacts(tree, library(), in_part)
         crate = CrateFacts(tree)
         if in_part:
             crate.write_in_part()
@@ -370,10 +378,12 @@ def main():
     how = parser.add_mutually_exclusive_group()
     how.add_argument("--strict", action="store_true", help="write nothing where something is left out")
     how.add_argument("--in-part", action="store_true", help="write all functions, each without what is left out of it")
+    parser.add_argument("--every-kind", action="store_true",
+                        help="write items and bodies of every kind; what is left out then is no kind of the format")
     add_file_options(parser)
     given = parser.parse_args()
     try:
-        crate = facts_of(given.file, given.edition, given.in_part)
+        crate = facts_of(given.file, given.edition, given.in_part, given.every_kind)
     except NoFacts as why:
         print("facts.py: %s" % why, file=sys.stderr)
         sys.exit(2)
@@ -381,7 +391,7 @@ def main():
         print(omission_text(omission, given.file), file=sys.stderr)
     if given.strict and crate.omissions():
         sys.exit(1)
-    put_out(text_of(crate.part.facts if given.in_part else crate.facts))
+    put_out(text_of(crate.part.facts if given.in_part and not given.every_kind else crate.facts))
 
 
 if __name__ == "__main__":
