@@ -30,11 +30,11 @@ abbrev pub without_minus : List ℕ → List ℕ
 without_minus [] = []
 without_minus (c ∷ cs) = if c == 45 then cs else c ∷ cs
 
--- the same, where a minus may stand before the digits
+-- the same, where a minus may stand before the digits of at most 2^127
 abbrev pub IsSignedInBits : RawLiteral → Type 0
 IsSignedInBits (literal.Bool b) = Unit {0}
 IsSignedInBits (literal.Char c) = IsScalar c
-IsSignedInBits (literal.Int digits suffix) = IsSomeAnd (value_of (without_minus digits)) (λ n. n < 2 ^ 128)
+IsSignedInBits (literal.Int digits suffix) = IsSomeAnd (value_of (without_minus digits)) (λ n. n ≤ 2 ^ 127)
 
 -- the pattern p is the expression e
 abbrev pub IsPatternOf : RawBody → ℕ → ExprId → Type 0

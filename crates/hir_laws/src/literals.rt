@@ -30,20 +30,28 @@ fn with_digit(value: u128, c: u8) -> Option<u128>
     }
 }
 
-fn is_small(digits: &[u8]) -> bool
-    ensures { IsTrue result ↔ IsSmall (value_of digits.now) }
+/// What decimal digits stand for, where that is below 2^128.
+fn small_value(digits: &[u8]) -> Option<u128>
+    ensures value { MatchOption result (IsSmall (value_of digits.now) → ⊥) (λ n. value_of digits.now ≡ Some n) }
+    ensures small { IfSome result (λ n. n < 2 ^ 128) }
 {
     if digits.is_empty() {
-        return false;
+        return None;
     }
     let mut value: u128 = 0;
     for c in digits {
         match with_digit(value, *c) {
-            None => return false,
+            None => return None,
             Some(next) => value = next,
         }
     }
-    true
+    Some(value)
+}
+
+fn is_small(digits: &[u8]) -> bool
+    ensures { IsTrue result ↔ IsSmall (value_of digits.now) }
+{
+    small_value(digits).is_some()
 }
 
 fn is_in_bits(literal: &RawLiteral) -> bool
@@ -65,6 +73,18 @@ fn without_minus(digits: &[u8]) -> &[u8]
     }
 }
 
+/// The magnitude of the least integer, `i128::MIN`.
+const MOST_MAGNITUDE: u128 = 170_141_183_460_469_231_731_687_303_715_884_105_728;
+
+fn has_magnitude(value: Option<u128>) -> bool
+    ensures { IsTrue result ↔ IsSomeAnd value (λ n. n ≤ 2 ^ 127) }
+{
+    match value {
+        None => false,
+        Some(value) => value <= MOST_MAGNITUDE,
+    }
+}
+
 fn is_signed_in_bits(literal: &RawLiteral) -> bool
     ensures { IsTrue result ↔ IsSignedInBits literal.now }
 {
@@ -72,7 +92,7 @@ fn is_signed_in_bits(literal: &RawLiteral) -> bool
         RawLiteral::Bool(_) => true,
         RawLiteral::Char(code) => char::from_u32(*code).is_some(),
         RawLiteral::Int { digits, suffix: _ } => {
-            is_small(without_minus(digits.as_str().as_bytes()))
+            has_magnitude(small_value(without_minus(digits.as_str().as_bytes())))
         }
     }
 }

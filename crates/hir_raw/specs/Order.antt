@@ -175,8 +175,10 @@ is_place_expr (Some (expr.Path (path.Local v))) = true
 is_place_expr (Some (expr.Later x)) = is_place_later x
 is_place_expr _ = false
 
--- the target of an assignment is a place where it is the pattern of such an expression
+-- the target of an assignment is a place where it is the pattern of such an expression, or a path to a place
 abbrev pub is_place_target : RawBody → Option RawPat → Bool
+is_place_target b (Some (pat.Path (path.Local v))) = true
+is_place_target b (Some (pat.Later (later_pat.Path q))) = is_place_path q
 is_place_target b (Some (pat.Later (later_pat.Expr e))) = is_place_expr (slice_get b.exprs e.0)
 is_place_target b _ = false
 

@@ -169,6 +169,8 @@ fn is_place_target(body: &RawBody, target: PatId) -> bool
     ensures { result ≡ is_place_target body.now (slice_get body.now.pats target.0) }
 {
     match body.pats.get(target.0 as usize) {
+        Some(RawPat::Path(RawPath::Local(_))) => true,
+        Some(RawPat::Later(LaterPat::Path(path))) => is_place_path(path),
         Some(RawPat::Later(LaterPat::Expr(expr))) => is_place_expr(body, *expr),
         _ => false,
     }

@@ -214,9 +214,14 @@ fn is_place_expr(expr: &Value) -> bool {
     match word(Some(expr)) {
         "_" | "field" | "index" => true,
         "un" => word(expr.get(1usize)) == "deref",
-        "path" => matches!(word(expr.get(1usize)), "local" | "static"),
+        "path" => is_place_path(expr.get(1usize)),
         _ => false,
     }
+}
+
+/// Whether such a path is one to a place.
+fn is_place_path(path: Option<&Value>) -> bool {
+    matches!(word(path), "local" | "static")
 }
 
 impl<'a> Nodes<'a> {
@@ -239,11 +244,14 @@ impl<'a> Nodes<'a> {
         word(self.expr(Some(value))) == "closure"
     }
 
-    /// Whether the pattern with this number is an expression that is a place.
+    /// Whether the pattern with this number is a place: an expression that is one, or a path to one.
     fn is_place(self, value: Option<&Value>) -> bool {
         let Some(pat) = number(value).and_then(|pat| self.pats.get(pat)) else {
             return false;
         };
+        if word(Some(pat)) == "path" {
+            return is_place_path(pat.get(1usize));
+        }
         match self.expr(pat.get(1usize)) {
             Some(expr) if word(Some(pat)) == "expr" => is_place_expr(expr),
             _ => false,

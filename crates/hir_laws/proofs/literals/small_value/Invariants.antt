@@ -1,5 +1,5 @@
 use Rattle.hir_laws.proofs.Digits.{Valued}
-use Rattle.hir_laws.proofs.literals.is_small.Given as goal
+use Rattle.hir_laws.proofs.literals.small_value.Given as goal
 
 abbrev pub invariant-loop-c : goal.invariant-loop-c
 invariant-loop-c l = Valued l.digits l.c-index l.value
