@@ -76,10 +76,10 @@ lower_part-returns-in-Param t c =
     let g = given_of c.args.given.now in
     leaf_done g (let_before g c.lawful.ensures) _ (type.Param c.in-Param.number) (read_itself g c.args.type_ref (type.Param c.in-Param.number) (c.written.ensures ∙ ap (λ (x : RawType). Some x) c.in-Param.is) refl) (ty.Param c.in-Param.number) _ c.requires.sound (λ e. absurd (cc)) refl refl
 
-pub lower_part-returns-in-Other : goal.lower_part-returns-in-Other
-lower_part-returns-in-Other t c =
+pub lower_part-returns-in-Later : goal.lower_part-returns-in-Later
+lower_part-returns-in-Later t c =
     let g = given_of c.args.given.now in
-    leaf_done g (let_before g c.lawful.ensures) _ type.Other (read_itself g c.args.type_ref type.Other (c.written.ensures ∙ ap (λ (x : RawType). Some x) c.in-Other.is) refl) ty.Error _ c.requires.sound (λ e. absurd (cc)) refl refl
+    leaf_done g (let_before g c.lawful.ensures) _ (type.Later c.in-Later.field-0) (read_itself g c.args.type_ref (type.Later c.in-Later.field-0) (c.written.ensures ∙ ap (λ (x : RawType). Some x) c.in-Later.is) refl) ty.Error _ c.requires.sound (λ e. absurd (cc)) refl refl
 
 pub lower_part-returns-in_ok-tys-in-Tuple : goal.lower_part-returns-in_ok-tys-in-Tuple
 lower_part-returns-in_ok-tys-in-Tuple t c =
