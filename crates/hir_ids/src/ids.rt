@@ -20,29 +20,37 @@ fn has_children_before(at: usize, ty: &RawType) -> bool
     are_below(ty.parts(), at)
 }
 
+fn has_trait(raw: &RawFacts, id: TraitId) -> bool
+    ensures { IsTrue result ↔ (id.0 < length raw.now.traits) }
+{
+    (id.0 as usize) < raw.traits.len()
+}
+
 fn has_principal(raw: &RawFacts, principal: &Option<RawPrincipal>) -> bool
     ensures { IsTrue result ↔ PrincipalExists raw.now principal.now }
 {
     match principal {
         None => true,
-        Some(principal) => (principal.trait_.0 as usize) < raw.traits.len(),
+        Some(principal) => has_trait(raw, principal.trait_),
     }
 }
 
 fn have_traits(raw: &RawFacts, traits: &[TraitId]) -> bool
     ensures { IsTrue result ↔ TraitsExist raw.now traits.now }
 {
-    traits
-        .iter()
-        .all(|id| (id.0 as usize) < raw.traits.len())
+    traits.iter().all(|id| has_trait(raw, *id))
+}
+
+fn has_alias(raw: &RawFacts, alias: TypeAliasId) -> bool
+    ensures { IsTrue result ↔ (alias.0 < length raw.now.aliases) }
+{
+    (alias.0 as usize) < raw.aliases.len()
 }
 
 fn have_aliases(raw: &RawFacts, aliases: &[TypeAliasId]) -> bool
     ensures { IsTrue result ↔ AliasesExist raw.now aliases.now }
 {
-    aliases
-        .iter()
-        .all(|alias| (alias.0 as usize) < raw.aliases.len())
+    aliases.iter().all(|alias| has_alias(raw, *alias))
 }
 
 fn has_object(
