@@ -22,10 +22,16 @@ fn are_auto_traits(raw: &RawFacts, traits: &[TraitId]) -> bool
     traits.iter().all(|id| is_auto_trait(raw, *id))
 }
 
+fn is_same_trait(a: TraitId, b: TraitId) -> bool
+    ensures { IsTrue result ↔ (a.0 ≡ b.0) }
+{
+    a.0 == b.0
+}
+
 fn is_new_trait(before: &[TraitId], id: TraitId) -> bool
     ensures { IsTrue result ↔ ((j : ℕ) (u : TraitId) → slice_get before.now j ≡ Some u → u.0 ≡ id.0 → ⊥) }
 {
-    before.iter().all(|other| other.0 != id.0)
+    before.iter().all(|other| !is_same_trait(*other, id))
 }
 
 fn are_new_traits(traits: &[TraitId]) -> bool
@@ -39,10 +45,16 @@ fn are_new_traits(traits: &[TraitId]) -> bool
     true
 }
 
+fn is_same_alias(a: TypeAliasId, b: TypeAliasId) -> bool
+    ensures { IsTrue result ↔ (a.0 ≡ b.0) }
+{
+    a.0 == b.0
+}
+
 fn is_new_alias(before: &[TypeAliasId], alias: TypeAliasId) -> bool
     ensures { IsTrue result ↔ ((j : ℕ) (b : TypeAliasId) → slice_get before.now j ≡ Some b → b.0 ≡ alias.0 → ⊥) }
 {
-    before.iter().all(|other| other.0 != alias.0)
+    before.iter().all(|other| !is_same_alias(*other, alias))
 }
 
 fn are_new_aliases(aliases: &[TypeAliasId]) -> bool
