@@ -24,7 +24,7 @@ layer params f (Some (type.Adt a ts)) = node (head.Adt a) (parts_by f ts)
 layer params f (Some (type.Projection a ts)) = node (head.Projection a) (parts_by f ts)
 layer params f (Some (type.Param n)) = params n
 layer params f (Some type.Hole) = node head.Hole []
-layer params f (Some type.Other) = node head.Error []
+layer params f (Some (type.Later x)) = node head.Error []
 
 types_parts : (s : Replacement) (f : ℕ → Ty) (ts : List TypeRefId) → parts_of_types (map (replaced s) (map (λ t. f t.0) ts)) ≡ parts_by (λ j. term (replaced s (f j))) ts
 types_parts s f [] = refl
@@ -58,7 +58,7 @@ layer_is s f (Some (type.Projection a ts)) =
     ap term (replaced_projection s a xs) ∙ term_projection a (args_replaced s xs) ∙ ap (node (head.Projection a)) (args_parts s f ts)
 layer_is s f (Some (type.Param n)) = ap term (replaced_param s n)
 layer_is s f (Some type.Hole) = ap term (replaced_hole s) ∙ term_hole
-layer_is s f (Some type.Other) = ap term (replaced_error s) ∙ term_error
+layer_is s f (Some (type.Later x)) = ap term (replaced_error s) ∙ term_error
 
 -- a written type at arguments is what it is written as, over its parts
 pub type_layer : (raw : RawFacts) (xs : List GenericArg) (w : TypeRefId)

@@ -113,7 +113,7 @@ module _ (A : Aliases) (alias_good : AliasIsGood A) where
       step i (Some (type.Projection a ts)) at f h = projection_in a f h ts
       step i (Some (type.Param m)) at f h = params m
       step i (Some type.Hole) at f h = none_in head.Hole ty.Hole refl (sym term_hole)
-      step i (Some type.Other) at f h = error_in
+      step i (Some (type.Later x)) at f h = error_in
 
       pub type_good : (w : TypeRefId) → IsGoodAt (type_at raw xs w)
       type_good w = by_layers raw xs IsGoodAt error_in step w

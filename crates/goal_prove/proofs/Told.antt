@@ -68,7 +68,7 @@ module _ (raw : RawFacts) (n : ℕ) (p : Fill) where
   step i (Some (type.Projection a ts)) at f h = λ u r is k s. absurd (true≢false (sym s))
   step i (Some (type.Param m)) at f h = param_tells (slice_get (holes n) m) (hole_at n m)
   step i (Some type.Hole) at f h = none_stands head.Hole refl
-  step i (Some type.Other) at f h = none_stands head.Error refl
+  step i (Some (type.Later x)) at f h = none_stands head.Error refl
 
   pub type_tells : (w : TypeRefId) → Tells (type_at raw (holes n) w)
   type_tells w = by_layers raw (holes n) Tells (none_stands head.Error refl) step w

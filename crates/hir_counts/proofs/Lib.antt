@@ -1,7 +1,8 @@
-pub mod AdtLayers
 pub mod StandingTypes
 pub mod Fits
 pub mod Drops
+pub mod Agreeing
+pub mod Objects
 pub mod Measured
 pub mod TypeMeasures
 pub mod GoalUses

@@ -1,5 +1,4 @@
 -- What this crate takes from those below it.
-pub use Rattle.hir_types.proofs.Layers.{measured_bool, measured_char, measured_error, measured_integer, measured_tuple}
 pub use Rattle.hir_ids.proofs.Words.{schedule_unique, tree_of_schedule}
 pub use Rattle.hir_ids.proofs.Words.{Passed, passed_all, passed_more, scheduled_at}
 pub use Rattle.hir_ids.proofs.Mentioned.{mention_said, mentions_within, said_mention}

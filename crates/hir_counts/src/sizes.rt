@@ -1,12 +1,12 @@
 //! How long lists may be, and how deep types.
 ghost use Rattle.std.specs.Prelude.{◌≡◌, ◌↔◌, ◌+◌, ◌<◌, ℕ, Some, map, max, min, sum, length, slice_get, slice_index, IsTrue, IfOk};
-ghost use Rattle.hir_counts.specs.Words.{TypeRefId, most, depth, size, AllHold, ChildrenBefore, IsShort, ListIsShort, IsEarly, TypeIsSmall, AdtIsSmall, VariantIsSmall, FnIsSmall};
-ghost use Rattle.hir_counts.specs.Own.{depth_by, size_by, AreMeasures};
+ghost use Rattle.hir_counts.specs.Words.{TypeRefId, most, depth_in, size_in, measured_by, one_level, with_consts, AllHold, ChildrenBefore, IsShort, ListIsShort, IsEarly, PrincipalIsShort, DynIsShort, FormerIsShort, KindIsShort, TypeIsSmall, AdtIsSmall, VariantIsSmall, FnIsSmall};
+ghost use Rattle.hir_counts.specs.Own.{AreMeasures};
 
 use crate::goal_sizes::goals_are_short;
 use hir_ids::Test;
-use hir_raw::{Mention, RawAdt, RawFacts, RawFn, RawType, RawVariant};
-use hir_types::{ModuleId, TypeRefId};
+use hir_raw::{Former, Mention, RawAdt, RawFacts, RawFn, RawPrincipal, RawType, RawVariant};
+use hir_types::{List, ModuleId, TraitId, TypeAliasId, TypeRefId};
 use std::alloc::{AllocError, Global};
 
 /// How many entries a list may have.
@@ -15,7 +15,7 @@ const MOST_ENTRIES: usize = 1048576;
 /// One more than the number of levels that a type may have.
 const DEPTH_CAP: usize = 65;
 
-/// One more than the number of types that a type may be written with.
+/// One more than the number of types and consts that a type may be written with.
 const SIZE_CAP: usize = 4097;
 
 pub fn larger(a: usize, b: usize) -> usize
@@ -47,14 +47,14 @@ fn one_deeper(depth: usize) -> usize
 
 fn depth_over(depths: &[usize], ty: &RawType) -> usize
     requires { ChildrenBefore (length depths.now) ty.now }
-    ensures { result ≡ min DEPTH_CAP (depth_by (λ t. slice_index depths.now t) ty.now) }
+    ensures { result ≡ min DEPTH_CAP (measured_by most one_level (λ t. slice_index depths.now t) ty.now) }
 {
     one_deeper(most_of(depths, ty.parts()))
 }
 
 fn depths_of(alloc: Global, types: &[RawType]) -> Result<Vec<usize>, AllocError>
     requires { AllHold ChildrenBefore types.now }
-    ensures { IfOk result (λ v. AreMeasures DEPTH_CAP depth types.now (length types.now) v.items) }
+    ensures { IfOk result (λ v. AreMeasures DEPTH_CAP depth_in types.now (length types.now) v.items) }
 {
     let mut depths = Vec::new(alloc);
     for ty in types {
@@ -87,14 +87,14 @@ fn capped_sum(a: usize, b: usize) -> usize
 
 fn size_over(sizes: &[usize], ty: &RawType) -> usize
     requires { ChildrenBefore (length sizes.now) ty.now }
-    ensures { result ≡ min SIZE_CAP (size_by (λ t. slice_index sizes.now t) ty.now) }
+    ensures { result ≡ min SIZE_CAP (measured_by sum with_consts (λ t. slice_index sizes.now t) ty.now) }
 {
-    capped_sum(sum_of(sizes, ty.parts()), 1)
+    capped_sum(sum_of(sizes, ty.parts()), ty.consts().len() + 1)
 }
 
 fn sizes_of(alloc: Global, types: &[RawType]) -> Result<Vec<usize>, AllocError>
     requires { AllHold ChildrenBefore types.now }
-    ensures { IfOk result (λ v. AreMeasures SIZE_CAP size types.now (length types.now) v.items) }
+    ensures { IfOk result (λ v. AreMeasures SIZE_CAP size_in types.now (length types.now) v.items) }
 {
     let mut sizes = Vec::new(alloc);
     for ty in types {
@@ -118,6 +118,56 @@ pub fn is_short<T>(entries: &[T]) -> bool
     entries.len() <= MOST_ENTRIES
 }
 
+fn principal_is_short(principal: &Option<RawPrincipal>) -> bool
+    ensures { IsTrue result ↔ PrincipalIsShort principal.now }
+{
+    match principal {
+        None => true,
+        Some(principal) => is_short(principal.kinds.as_slice()),
+    }
+}
+
+fn object_is_short(
+    principal: &Option<RawPrincipal>,
+    projections: &List<TypeAliasId>,
+    auto_traits: &List<TraitId>,
+) -> bool
+    ensures { IsTrue result ↔ DynIsShort principal.now projections.now auto_traits.now }
+{
+    principal_is_short(principal)
+        && is_short(projections.as_slice())
+        && is_short(auto_traits.as_slice())
+}
+
+fn former_is_short(former: &Former) -> bool
+    ensures { IsTrue result ↔ FormerIsShort former.now }
+{
+    match former {
+        Former::Dyn {
+            principal,
+            projections,
+            auto_traits,
+        } => object_is_short(principal, projections, auto_traits),
+        Former::Adt { adt: _, kinds } => is_short(kinds.as_slice()),
+        Former::Projection { alias: _, kinds } => is_short(kinds.as_slice()),
+        Former::Opaque { opaque: _, kinds } => is_short(kinds.as_slice()),
+        Former::Str | Former::Never | Former::Error | Former::Float(_) => true,
+        Former::Array | Former::Slice | Former::Ref { .. } => true,
+        Former::Ptr(_) | Former::FnPtr(_) => true,
+    }
+}
+
+fn kind_is_short(ty: &RawType) -> bool
+    ensures { IsTrue result ↔ KindIsShort ty.now }
+{
+    match ty {
+        RawType::Later(later) => former_is_short(&later.former),
+        RawType::Bool | RawType::Char | RawType::Integer(_) | RawType::Tuple(_) => true,
+        RawType::Adt { .. } | RawType::Projection { .. } => true,
+        RawType::Param(_) | RawType::Hole => true,
+    }
+}
+
 /// Whether a list that is mentioned has at most so many entries.
 pub fn is_short_list(mention: Mention) -> bool
     ensures { IsTrue result ↔ ListIsShort mention }
@@ -139,8 +189,8 @@ impl TypeSizes {
     /// Finds out how deep and how large each type is.
     pub fn new(alloc: Global, raw: &RawFacts) -> Result<TypeSizes, AllocError>
         requires { AllHold ChildrenBefore raw.now.types }
-        ensures depths { IfOk result (λ it. AreMeasures DEPTH_CAP depth raw.now.types (length raw.now.types) it.depths.items) }
-        ensures sizes { IfOk result (λ it. AreMeasures SIZE_CAP size raw.now.types (length raw.now.types) it.sizes.items) }
+        ensures depths { IfOk result (λ it. AreMeasures DEPTH_CAP depth_in raw.now.types (length raw.now.types) it.depths.items) }
+        ensures sizes { IfOk result (λ it. AreMeasures SIZE_CAP size_in raw.now.types (length raw.now.types) it.sizes.items) }
     {
         let depths = depths_of(alloc, raw.types.as_slice())?;
         let sizes = sizes_of(alloc, raw.types.as_slice())?;
@@ -150,7 +200,7 @@ impl TypeSizes {
 
 impl Test for TypeSizes {
     ghost use Rattle.std.specs.Prelude.{◌≡◌, length};
-    ghost use Rattle.hir_counts.specs.Words.{depth, size, TypeIsSmall};
+    ghost use Rattle.hir_counts.specs.Words.{depth_in, size_in, TypeIsSmall};
     ghost use Rattle.hir_counts.specs.Measures.{AreMeasures};
 
     type Item = RawType;
@@ -159,7 +209,7 @@ impl Test for TypeSizes {
 
     ghost holds = { TypeIsSmall };
 
-    ghost given = { λ raw s. AreMeasures 65 depth raw.types (length raw.types) s.depths.items × AreMeasures 4097 size raw.types (length raw.types) s.sizes.items };
+    ghost given = { λ raw s. AreMeasures 65 depth_in raw.types (length raw.types) s.depths.items × AreMeasures 4097 size_in raw.types (length raw.types) s.sizes.items };
 
     fn test(
         &self,
@@ -171,6 +221,7 @@ impl Test for TypeSizes {
         Ok(
             is_early(at)
                 && is_short(item.parts())
+                && kind_is_short(item)
                 && self.depths[at] < DEPTH_CAP
                 && self.sizes[at] < SIZE_CAP,
         )

@@ -1,10 +1,15 @@
 //! What stands in written types.
-ghost use Rattle.std.specs.Prelude.{◌≡◌, max, map, length, slice_index, IfOk};
-ghost use Rattle.hir_counts.specs.Words.{most, type_parts, AllHold, ChildrenBefore, param_bound, wrong_args, hole_at};
+ghost use Rattle.std.specs.Prelude.{◌≡◌, max, map, length, slice_get, slice_index, IfOk};
+ghost use Rattle.std.specs.List.{list_all, list_any};
+ghost use Rattle.hir_counts.specs.Words.{most, type_parts, AllHold, ChildrenBefore, param_bound, is_for, agree, agree_with_adt, agree_with_trait, agree_after_self, agree_with_alias, agree_with_principal, former_agrees, is_no_param, wrong_later, wrong_args, is_const_hole, hole_at};
 ghost use Rattle.hir_counts.specs.Own.{own_of, AreMosts};
 
 use crate::sizes::{larger, most_of};
-use hir_raw::{RawFacts, RawType, alias_params, has_params};
+use hir_raw::{
+    ArgKind, Former, LaterType, RawConst, RawFacts, RawParam, RawPrincipal, RawType, alias_params,
+    has_params,
+};
+use hir_types::{AdtId, TraitId, TypeAliasId};
 use std::alloc::{AllocError, Global};
 
 /// What is sought in a written type.
@@ -12,9 +17,9 @@ use std::alloc::{AllocError, Global};
 pub enum Sought {
     /// One more than the greatest number of a parameter, or 0.
     Params,
-    /// 1 where arguments are not as many as the parameters, else 0.
+    /// 1 where arguments are not as the parameters, or a const is a parameter, else 0.
     Args,
-    /// 1 where a `_` stands, else 0.
+    /// 1 where a `_` stands, for a type or a const, else 0.
     Holes,
 }
 
@@ -25,7 +30,122 @@ fn param_bound(ty: &RawType) -> usize
         RawType::Param(number) => *number as usize + 1,
         RawType::Bool | RawType::Char | RawType::Integer(_) | RawType::Tuple(_) => 0,
         RawType::Adt { .. } | RawType::Projection { .. } => 0,
-        RawType::Hole | RawType::Other => 0,
+        RawType::Hole | RawType::Later(_) => 0,
+    }
+}
+
+fn is_for(param: RawParam, kind: ArgKind) -> bool
+    ensures { result ≡ is_for param kind }
+{
+    match param {
+        RawParam::Type => match kind {
+            ArgKind::Type => true,
+            ArgKind::Const => false,
+        },
+        RawParam::Const(_) => match kind {
+            ArgKind::Type => false,
+            ArgKind::Const => true,
+        },
+    }
+}
+
+fn agree(params: &[RawParam], kinds: &[ArgKind]) -> bool
+    ensures { result ≡ agree params.now kinds.now }
+{
+    if params.len() != kinds.len() {
+        return false;
+    }
+    for at in 0..kinds.len() {
+        if !is_for(params[at], kinds[at]) {
+            return false;
+        }
+    }
+    true
+}
+
+fn agree_with_adt(raw: &RawFacts, adt: AdtId, kinds: &[ArgKind]) -> bool
+    ensures { result ≡ agree_with_adt (slice_get raw.now.adts adt.0) kinds.now }
+{
+    match raw.adts.get(adt.0 as usize) {
+        None => false,
+        Some(adt) => agree(adt.params.as_slice(), kinds),
+    }
+}
+
+fn agree_with_trait(raw: &RawFacts, id: TraitId, kinds: &[ArgKind]) -> bool
+    ensures { result ≡ agree_with_trait (slice_get raw.now.traits id.0) kinds.now }
+{
+    match raw.traits.get(id.0 as usize) {
+        None => false,
+        Some(item) => agree(item.params.as_slice(), kinds),
+    }
+}
+
+fn agree_after_self(raw: &RawFacts, id: TraitId, kinds: &[ArgKind]) -> bool
+    ensures { result ≡ agree_after_self (slice_get raw.now.traits id.0) kinds.now }
+{
+    match kinds.split_first() {
+        None => false,
+        Some((first, rest)) => {
+            is_for(RawParam::Type, *first) && agree_with_trait(raw, id, rest)
+        }
+    }
+}
+
+fn agree_with_alias(raw: &RawFacts, alias: TypeAliasId, kinds: &[ArgKind]) -> bool
+    ensures { result ≡ agree_with_alias raw.now (slice_get raw.now.aliases alias.0) kinds.now }
+{
+    match raw.aliases.get(alias.0 as usize) {
+        None => false,
+        Some(alias) => agree_after_self(raw, alias.trait_, kinds),
+    }
+}
+
+fn agree_with_principal(raw: &RawFacts, principal: &Option<RawPrincipal>) -> bool
+    ensures { result ≡ agree_with_principal raw.now principal.now }
+{
+    match principal {
+        None => true,
+        Some(principal) => agree_with_trait(raw, principal.trait_, principal.kinds.as_slice()),
+    }
+}
+
+fn former_agrees(raw: &RawFacts, former: &Former) -> bool
+    ensures { result ≡ former_agrees raw.now former.now }
+{
+    match former {
+        Former::Dyn { principal, .. } => agree_with_principal(raw, principal),
+        Former::Adt { adt, kinds } => agree_with_adt(raw, *adt, kinds.as_slice()),
+        Former::Projection { alias, kinds } => agree_with_alias(raw, *alias, kinds.as_slice()),
+        Former::Opaque { .. } => true,
+        Former::Str | Former::Never | Former::Error | Former::Float(_) => true,
+        Former::Array | Former::Slice | Former::Ref { .. } => true,
+        Former::Ptr(_) | Former::FnPtr(_) => true,
+    }
+}
+
+fn is_no_param(value: RawConst) -> bool
+    ensures { result ≡ is_no_param value }
+{
+    match value {
+        RawConst::Param(_) => false,
+        RawConst::Value(_) | RawConst::Unknown | RawConst::Hole => true,
+    }
+}
+
+fn are_no_params(consts: &[RawConst]) -> bool
+    ensures { result ≡ list_all is_no_param consts.now }
+{
+    consts.iter().all(|value| is_no_param(*value))
+}
+
+fn wrong_later(raw: &RawFacts, later: &LaterType) -> usize
+    ensures { result ≡ wrong_later raw.now later.now }
+{
+    if former_agrees(raw, &later.former) && are_no_params(later.consts.as_slice()) {
+        0
+    } else {
+        1
     }
 }
 
@@ -45,8 +165,24 @@ fn wrong_args(raw: &RawFacts, ty: &RawType) -> usize
             }
         }
         RawType::Bool | RawType::Char | RawType::Integer(_) | RawType::Tuple(_) => 0,
-        RawType::Param(_) | RawType::Hole | RawType::Other => 0,
+        RawType::Param(_) | RawType::Hole => 0,
+        RawType::Later(later) => wrong_later(raw, later),
     }
+}
+
+fn is_const_hole(value: RawConst) -> bool
+    ensures { result ≡ is_const_hole value }
+{
+    match value {
+        RawConst::Hole => true,
+        RawConst::Value(_) | RawConst::Param(_) | RawConst::Unknown => false,
+    }
+}
+
+fn has_const_hole(consts: &[RawConst]) -> bool
+    ensures { result ≡ list_any is_const_hole consts.now }
+{
+    consts.iter().any(|value| is_const_hole(*value))
 }
 
 fn hole_at(ty: &RawType) -> usize
@@ -56,7 +192,14 @@ fn hole_at(ty: &RawType) -> usize
         RawType::Hole => 1,
         RawType::Bool | RawType::Char | RawType::Integer(_) | RawType::Tuple(_) => 0,
         RawType::Adt { .. } | RawType::Projection { .. } => 0,
-        RawType::Param(_) | RawType::Other => 0,
+        RawType::Param(_) => 0,
+        RawType::Later(later) => {
+            if has_const_hole(later.consts.as_slice()) {
+                1
+            } else {
+                0
+            }
+        }
     }
 }
 

@@ -76,7 +76,7 @@ module _ (raw : RawFacts) (law : IsLawful raw) (own : ℕ) (ks : List ℕ) (P : 
   by_kind g (type.Projection a ws) kind none plain fits each = absurd (true≢false plain)
   by_kind g (type.Param n) kind none plain fits each = over.param n (wider n fits)
   by_kind g type.Hole kind none plain fits each = absurd (omega (arith, none))
-  by_kind g type.Other kind none plain fits each = absurd (true≢false (sym kind))
+  by_kind g (type.Later x) kind none plain fits each = absurd (true≢false (sym kind))
 
   -- a projection is one of the parameters
   is_param : (g : ℕ → Ty) (i : ℕ) (y : RawType) → slice_get raw.types i ≡ Some y → is_alias y ≡ true → In ks i → P (filled_by ty.Hole g (slice_get types i))

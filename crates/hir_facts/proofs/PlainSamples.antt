@@ -203,7 +203,7 @@ mutual_enum_is_plain = record { set = both; is_plain = record { each = both_are_
 
 -- enum A<const N: usize> { V }, whatever the rest of the facts
 abbrev with_const : RawAdt
-with_const = record (adt_of kind.Enum (v 0 ∷ [])) { params = parameter.Other ∷ [] }
+with_const = record (adt_of kind.Enum (v 0 ∷ [])) { params = parameter.Const (w 0) ∷ [] }
 
 pub adt_with_const_is_not_plain : (raw : RawFacts) → slice_get raw.adts 0 ≡ Some with_const → IsPlainAdt raw 0 → ⊥
 adt_with_const_is_not_plain raw at h =
@@ -227,7 +227,7 @@ fn_of params has_self = record {
 }
 
 -- a function with a const parameter is not plain
-pub fn_with_const_is_not_plain : (raw : RawFacts) → IsPlainSignature raw (fn_of (parameter.Other ∷ []) false) → ⊥
+pub fn_with_const_is_not_plain : (raw : RawFacts) → IsPlainSignature raw (fn_of (parameter.Const (w 0) ∷ []) false) → ⊥
 fn_with_const_is_not_plain raw h = let told : false ≡ true = h.header in absurd (cc)
 
 -- nor is one with `self`

@@ -25,7 +25,7 @@ is_carried_written_type (type.Adt a ts) = true
 is_carried_written_type (type.Projection a ts) = true
 is_carried_written_type (type.Param n) = true
 is_carried_written_type type.Hole = true
-is_carried_written_type type.Other = false
+is_carried_written_type (type.Later x) = false
 
 abbrev pub is_empty : {A : Type 0} → List A → Bool
 is_empty [] = true
@@ -34,12 +34,12 @@ is_empty (x ∷ xs) = false
 -- the parameter stands for a type
 abbrev pub is_type_param : RawParam → Bool
 is_type_param param.Type = true
-is_type_param param.Other = false
+is_type_param (param.Const t) = false
 
 -- arguments are types
 abbrev pub is_carried_args : RawArgs → Bool
 is_carried_args (args.Types ts) = true
-is_carried_args args.Other = false
+is_carried_args (args.Later x) = false
 
 abbrev pub is_carried_goal : RawGoal → Bool
 is_carried_goal (goal.Trait r) = is_carried_args r.args

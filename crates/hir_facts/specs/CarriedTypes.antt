@@ -330,7 +330,7 @@ module _ (raw : RawFacts) (law : IsLawful raw) (count : ℕ) where
   by_carried u f (type.Projection a ts) fits own h = absurd fits
   by_carried u f (type.Param n) fits own h = carried_param n
   by_carried u f type.Hole fits own h = own
-  by_carried u f type.Other fits own h = carried_error
+  by_carried u f (type.Later x) fits own h = carried_error
 
   within_carried : (h : ℕ → Ty) → ((k : ℕ) → IsCarriedType (h k)) → (n i : ℕ) → i < n → FitsUnder raw count i
       → IsCarriedType (filled_within h n raw.types i)

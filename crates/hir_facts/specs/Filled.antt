@@ -26,7 +26,7 @@ agree_by h g f f2 types i (type.Tuple ts) found same parts = ap ty.Tuple (tys_sa
 agree_by h g f f2 types i (type.Adt a ts) found same parts = ap (ty.Adt a) (args_same f f2 ts parts)
 agree_by h g f f2 types i (type.Projection a ts) found same parts = ap (ty.Projection a) (args_same f f2 ts parts)
 agree_by h g f f2 types i (type.Param n) found same parts = refl
-agree_by h g f f2 types i type.Other found same parts = refl
+agree_by h g f f2 types i (type.Later x) found same parts = refl
 
 found_agree : (h g : ℕ → Ty) (f f2 : ℕ → Ty) (types : List RawType) (i : ℕ) → ((k : ℕ) → StandsIn types k i → h k ≡ g k)
     → ((j : ℕ) → ((k : ℕ) → StandsIn types k j → h k ≡ g k) → f j ≡ f2 j)
@@ -74,7 +74,7 @@ written_by u f g m same (Some (type.Projection a ts)) h =
     ap (ty.Projection a) (args_same f g ts (λ k t at. same t.0 (none_in m 0 ts h k t at)))
 written_by u f g m same (Some (type.Param n)) h = refl
 written_by u f g m same (Some type.Hole) h = absurd (omega arith)
-written_by u f g m same (Some type.Other) h = refl
+written_by u f g m same (Some (type.Later x)) h = refl
 
 written_within : (h : ℕ → Ty) (types : List RawType) (n i : ℕ) → most_within hole_at n types i ≡ 0
     → filled_within h n types i ≡ filled_within (λ k. ty.Hole) n types i
@@ -127,7 +127,7 @@ folded_by a u f (Some (type.Projection i ts)) =
     replaced_projection (with_holes a) i (map (λ t. arg.Ty (f t.0)) ts) ∙ ap (ty.Projection i) (args_at a f ts)
 folded_by a u f (Some (type.Param n)) = replaced_param (with_holes a) n
 folded_by a u f (Some type.Hole) = refl
-folded_by a u f (Some type.Other) = replaced_error (with_holes a)
+folded_by a u f (Some (type.Later x)) = replaced_error (with_holes a)
 
 folded_within : (a : Assignment) (h : ℕ → Ty) (types : List RawType) (n i : ℕ)
     → folded a (filled_within h n types i) ≡ filled_within (λ k. folded a (h k)) n types i

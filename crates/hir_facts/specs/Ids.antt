@@ -1,7 +1,8 @@
 -- Ids are in range, and smaller where a list asks for it; each body is that of one definition.
 use Rattle.std.specs.Prelude.{ℕ, ◌<◌, ◌≡◌, List, ◌++◌, map, length, slice_get, Option, Some, option_map, flat_map, IfSome}
-use Rattle.hir_facts.specs.Words.{ModuleId, FunctionId, TypeRefId, VariantId, TraitId, RawType, RawAt, RawVis, RawFn, RawAdt, RawField, RawVariant, RawBody, RawFacts, Mention, PartsFit, AllMentioned, type_parts}
+use Rattle.hir_facts.specs.Words.{ModuleId, FunctionId, TypeRefId, VariantId, TraitId, TypeAliasId, Former, RawPrincipal, RawType, RawAt, RawVis, RawFn, RawAdt, RawField, RawVariant, RawBody, RawFacts, Mention, PartsFit, AllMentioned, type_parts}
 use Rattle.hir_raw.specs.declared.raw.RawType.TheVariants as type
+use Rattle.hir_raw.specs.declared.later_types.Former.TheVariants as former
 use Rattle.hir_raw.specs.declared.raw.RawAt.TheVariants as stands
 use Rattle.hir_raw.specs.declared.raw.RawVis.TheVariants as vis
 use Rattle.hir_raw.specs.declared.mention.Mention.TheVariants as it
@@ -12,7 +13,38 @@ use Rattle.hir_facts.specs.GoalIds.{GoalsExist}
 abbrev pub ChildrenBefore : ℕ → RawType → Type 0
 ChildrenBefore i x = (k : ℕ) (w : TypeRefId) → slice_get (type_parts x) k ≡ Some w → w.0 < i
 
--- the adt or the associated type that a type names is in range
+-- the trait that a `dyn` names first is in range, and so are the others and the associated types
+abbrev pub PrincipalExists : RawFacts → Option RawPrincipal → Type 0
+PrincipalExists raw o = IfSome o (λ p. p.trait_.0 < length raw.traits)
+
+abbrev pub TraitsExist : RawFacts → List TraitId → Type 0
+TraitsExist raw ts = (k : ℕ) (t : TraitId) → slice_get ts k ≡ Some t → t.0 < length raw.traits
+
+abbrev pub AliasesExist : RawFacts → List TypeAliasId → Type 0
+AliasesExist raw as_ = (k : ℕ) (a : TypeAliasId) → slice_get as_ k ≡ Some a → a.0 < length raw.aliases
+
+pub record DynExists (raw : RawFacts) (o : Option RawPrincipal) (as_ : List TypeAliasId) (ts : List TraitId) : Type 0 where
+  pub principal : PrincipalExists raw o
+  pub projections : AliasesExist raw as_
+  pub auto_traits : TraitsExist raw ts
+
+-- what a type of a later kind names beside its parts is in range
+abbrev pub FormerExists : RawFacts → Former → Type 0
+FormerExists raw former.Str = Unit {0}
+FormerExists raw former.Never = Unit {0}
+FormerExists raw former.Error = Unit {0}
+FormerExists raw (former.Float f) = Unit {0}
+FormerExists raw former.Array = Unit {0}
+FormerExists raw former.Slice = Unit {0}
+FormerExists raw (former.Ref m l) = Unit {0}
+FormerExists raw (former.Ptr m) = Unit {0}
+FormerExists raw (former.FnPtr s) = Unit {0}
+FormerExists raw (former.Dyn o as_ ts) = DynExists raw o as_ ts
+FormerExists raw (former.Adt a ks) = a.0 < length raw.adts
+FormerExists raw (former.Projection a ks) = a.0 < length raw.aliases
+FormerExists raw (former.Opaque o ks) = o.0 < length raw.opaques
+
+-- what a type names beside its parts is in range
 abbrev pub ItemExists : RawFacts → RawType → Type 0
 ItemExists raw (type.Adt a ts) = a.0 < length raw.adts
 ItemExists raw (type.Projection a ts) = a.0 < length raw.aliases
@@ -22,7 +54,7 @@ ItemExists raw (type.Integer n) = Unit {0}
 ItemExists raw (type.Tuple ts) = Unit {0}
 ItemExists raw (type.Param n) = Unit {0}
 ItemExists raw type.Hole = Unit {0}
-ItemExists raw type.Other = Unit {0}
+ItemExists raw (type.Later x) = FormerExists raw x.former
 
 pub record TypeIdsExist (raw : RawFacts) (i : ℕ) (t : RawType) : Type 0 where
   pub before : ChildrenBefore i t

@@ -10,6 +10,7 @@ use Rattle.hir_facts.specs.Carried.{is_carried_written_type, is_carried_adt, is_
 use Rattle.hir_facts.specs.Projections.{VariantIsCarried}
 use Rattle.hir_facts.specs.GoalIds.{TraitIdsExist, AliasIdsExist, ImplIdsExist, LangExists}
 use Rattle.hir_facts.specs.Ids.{TypeIdsExist, ParentBefore, AdtIdsExist, VariantIdsExist, FnIdsExist, BodyIdsExist}
+use Rattle.hir_facts.specs.Objects.{KindFits}
 use Rattle.hir_facts.specs.Counts.{AdtFits, VariantFits, FnFits, TraitFits, AliasFits, ImplFits}
 use Rattle.hir_facts.specs.Trees.{IsWellFormed}
 use Rattle.hir_facts.specs.Scopes.{ScopesHold}
@@ -63,6 +64,7 @@ ids_at S raw list.Bodies = S _ (BodyIdsExist raw) raw.bodies
 ids_at S raw _ = S ℕ all_hold []
 
 abbrev counts_at : Saying → RawFacts → FactsList → Type 0
+counts_at S raw list.Types = S _ (λ i t. KindFits raw t) raw.types
 counts_at S raw list.Adts = S _ (λ i a. AdtFits raw a) raw.adts
 counts_at S raw list.Variants = S _ (λ i v. VariantFits raw v) raw.variants
 counts_at S raw list.Fns = S _ (λ i f. FnFits raw f) raw.fns
@@ -113,8 +115,7 @@ test l k = record { law = l; list = k }
 
 abbrev pub item_tests : List Test
 item_tests =
-    test law.Carried list.Types ∷ test law.Carried list.Adts ∷ test law.Carried list.Variants
-    ∷ test law.Carried list.Fns ∷ []
+    test law.Carried list.Adts ∷ test law.Carried list.Variants ∷ test law.Carried list.Fns ∷ []
 
 -- of constants, statics and opaque types no entry is carried
 abbrev pub unread_tests : List Test
@@ -137,7 +138,7 @@ ids_tests =
 
 abbrev pub counts_tests : List Test
 counts_tests =
-    test law.Counts list.Adts ∷ test law.Counts list.Variants ∷ test law.Counts list.Fns
+    test law.Counts list.Types ∷ test law.Counts list.Adts ∷ test law.Counts list.Variants ∷ test law.Counts list.Fns
     ∷ test law.Counts list.Traits ∷ test law.Counts list.Aliases ∷ test law.Counts list.Impls ∷ []
 
 abbrev pub trees_tests : List Test
@@ -165,12 +166,16 @@ literals_tests = test law.Literals list.Variants ∷ test law.Literals list.Bodi
 abbrev pub holes_tests : List Test
 holes_tests = test law.Holes list.Types ∷ []
 
--- by law, then by list
+-- written types of all kinds are judged, and then those of later kinds refused
+abbrev pub type_tests : List Test
+type_tests = test law.Carried list.Types ∷ []
+
+-- by law, then by list, and what written types are carried at last
 abbrev pub tests : List Test
 tests =
     carried_tests ++ (ids_tests
     ++ (counts_tests ++ (trees_tests
-    ++ (scopes_tests ++ (sizes_tests ++ (limits_tests ++ (lang_tests ++ (literals_tests ++ holes_tests))))))))
+    ++ (scopes_tests ++ (sizes_tests ++ (limits_tests ++ (lang_tests ++ (literals_tests ++ (holes_tests ++ type_tests)))))))))
 
 abbrev pub Passes : RawFacts → Test → Type 0
 Passes raw t = says (λ A P xs. AllHold P xs) raw t.law t.list

@@ -14,31 +14,31 @@ use Rattle.hir_facts.specs.Uses.{HoleFits}
 use Rattle.hir_facts.specs.Lawful.{IsLawful}
 
 pub types_carried : (raw : RawFacts) → IsLawful raw → AllHold (λ i t. IsTrue (is_carried_written_type t)) raw.types
-types_carried raw law = law.all.0
+types_carried raw law = law.all.1.1.1.1.1.1.1.1.1.1.1.1.1.1.1.1.1.1.1.1.1.1.1.1.1.1.1.1.1.1.1.1.1.1.1.1.1.1.1.1.1.1.1.1.0
 
 pub carried_variants : (raw : RawFacts) → IsLawful raw → AllHold (λ i v. VariantIsCarried raw v) raw.variants
-carried_variants raw law = law.all.1.1.0
+carried_variants raw law = law.all.1.0
 
 pub variants_carried : (raw : RawFacts) → IsLawful raw → AllHold (λ i v. IsTrue (is_carried_variant v)) raw.variants
 variants_carried raw law i v found = (carried_variants raw law i v found).kind
 
 pub fns_carried : (raw : RawFacts) → IsLawful raw → AllHold (λ i f. IsTrue (is_carried_fn f)) raw.fns
-fns_carried raw law = law.all.1.1.1.0
+fns_carried raw law = law.all.1.1.0
 
 pub type_ids_exist : (raw : RawFacts) → IsLawful raw → AllHold (TypeIdsExist raw) raw.types
-type_ids_exist raw law = law.all.1.1.1.1.1.1.1.1.1.1.1.0
+type_ids_exist raw law = law.all.1.1.1.1.1.1.1.1.1.1.0
 
 pub adt_ids : (raw : RawFacts) → IsLawful raw → AllHold (AdtIdsExist raw) raw.adts
-adt_ids raw law = law.all.1.1.1.1.1.1.1.1.1.1.1.1.1.0
+adt_ids raw law = law.all.1.1.1.1.1.1.1.1.1.1.1.1.0
 
 pub variant_ids : (raw : RawFacts) → IsLawful raw → AllHold (VariantIdsExist raw) raw.variants
-variant_ids raw law = law.all.1.1.1.1.1.1.1.1.1.1.1.1.1.1.0
+variant_ids raw law = law.all.1.1.1.1.1.1.1.1.1.1.1.1.1.0
 
 pub fn_ids : (raw : RawFacts) → IsLawful raw → AllHold (λ i f. FnIdsExist raw f) raw.fns
-fn_ids raw law = law.all.1.1.1.1.1.1.1.1.1.1.1.1.1.1.1.0
+fn_ids raw law = law.all.1.1.1.1.1.1.1.1.1.1.1.1.1.1.0
 
 pub body_ids : (raw : RawFacts) → IsLawful raw → AllHold (BodyIdsExist raw) raw.bodies
-body_ids raw law = law.all.1.1.1.1.1.1.1.1.1.1.1.1.1.1.1.1.1.1.1.1.0
+body_ids raw law = law.all.1.1.1.1.1.1.1.1.1.1.1.1.1.1.1.1.1.1.1.0
 
 pub variants_fit : (raw : RawFacts) → IsLawful raw → AllHold (λ i v. VariantFits raw v) raw.variants
 variants_fit raw law = law.all.1.1.1.1.1.1.1.1.1.1.1.1.1.1.1.1.1.1.1.1.1.1.0

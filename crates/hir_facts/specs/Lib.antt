@@ -8,6 +8,8 @@ pub mod Lowered
 pub mod Standing
 pub mod Most
 pub mod Counts
+pub mod Objects
+pub mod Measures
 pub mod Sizes
 pub mod Uses
 pub mod Names

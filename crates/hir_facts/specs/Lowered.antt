@@ -33,7 +33,7 @@ filled_by_same u f g (type.Adt a ts) same = ap (ty.Adt a) (args_same f g ts same
 filled_by_same u f g (type.Projection a ts) same = ap (ty.Projection a) (args_same f g ts same)
 filled_by_same u f g (type.Param m) same = refl
 filled_by_same u f g type.Hole same = refl
-filled_by_same u f g type.Other same = refl
+filled_by_same u f g (type.Later x) same = refl
 
 of_same : (u : Ty) (f g : ℕ → Ty) (i : ℕ) (o : Option RawType) → ((x : RawType) → o ≡ Some x → ChildrenBefore i x)
     → ((j : ℕ) → j < i → f j ≡ g j) → filled_by u f o ≡ filled_by u g o

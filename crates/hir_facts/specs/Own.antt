@@ -8,18 +8,20 @@ pub use Rattle.hir_facts.specs.Existing.{binder_exists, constructor_exists, cons
 pub use Rattle.hir_facts.specs.Fields.{NamesFit}
 pub use Rattle.hir_facts.specs.Filled.{filled_agree, filled_folded, filled_written, is_hole, none_stands}
 pub use Rattle.hir_facts.specs.GoalIds.{AliasIdsExist, AliasIdsHere, GoalExists, GoalsExist, ImplIdsExist, IsAliasOf, IsGivenIn, LangExists, TraitIdsExist, TraitRefExists, TypesExist, listed_aliases, trait_aliases}
-pub use Rattle.hir_facts.specs.Ids.{AdtIdsExist, BodyIdsExist, ChildrenBefore, Exists, FieldIdsExist, FnIdsExist, HasOneOwner, IsInModule, IsModuleFn, IsVariantOf, ItemExists, ParentBefore, PlaceExists, TypeIdsExist, VariantIdsExist, VariantIdsHere, VisExists, adt_variants, listed_variants, owned_bodies, owned_body, variant_body}
+pub use Rattle.hir_facts.specs.Ids.{AdtIdsExist, AliasesExist, BodyIdsExist, ChildrenBefore, DynExists, Exists, FieldIdsExist, FnIdsExist, FormerExists, HasOneOwner, IsInModule, IsModuleFn, IsVariantOf, ItemExists, ParentBefore, PlaceExists, PrincipalExists, TraitsExist, TypeIdsExist, VariantIdsExist, VariantIdsHere, VisExists, adt_variants, listed_variants, owned_bodies, owned_body, variant_body}
 pub use Rattle.hir_facts.specs.Lang.{HasNoParams, LangFits}
-pub use Rattle.hir_facts.specs.Lawful.{FirstBroken, IsLawful, PassesAll, Test, abstract_tests, carried_tests, counts_tests, holes_tests, ids_tests, item_tests, lang_tests, limits_tests, literals_tests, says, scopes_tests, sizes_tests, tests, trees_tests, unread_tests}
+pub use Rattle.hir_facts.specs.Lawful.{FirstBroken, IsLawful, PassesAll, Test, abstract_tests, carried_tests, counts_tests, holes_tests, ids_tests, item_tests, lang_tests, limits_tests, literals_tests, says, scopes_tests, sizes_tests, tests, trees_tests, type_tests, unread_tests}
 pub use Rattle.hir_facts.specs.LawfulFacts.{adt_ids, bodies_small, bodies_well_formed, body_ids, carried_variants, counts_fit, fn_ids, fns_fit, holes_fit, literals_fit, scopes_hold, type_ids, type_ids_exist, types_carried, types_small, variant_ids, variants_carried, variants_fit}
 pub use Rattle.hir_facts.specs.LetFits.{AllFit, FitsHere, masked_before, masked_fit, written_fit}
 pub use Rattle.hir_facts.specs.Limits.{IsInRange, limits_of, most_at}
 pub use Rattle.hir_facts.specs.Literals.{DotsFit, IsAnyLiteral, IsAssigned, IsEnd, IsInBits, IsLiteral, IsPatternOf, IsSignedInBits, LaterDotsFit, LiteralsFit, MayHaveMinus, and_digit, assigned_below, assigned_here, value_of, without_minus}
 pub use Rattle.hir_facts.specs.Lowered.{filled_parts, lowered_parts, opened_before}
+pub use Rattle.hir_facts.specs.Measures.{depth_in, measured_by, measured_in, measured_parts, one_level, size_in, with_consts}
 pub use Rattle.hir_facts.specs.Most.{most_above, most_by_same, most_parts, most_within_step, own_most, part_most}
 pub use Rattle.hir_facts.specs.Named.{IsNamedAt, NamedOnce}
 pub use Rattle.hir_facts.specs.Names.{law_number, list_number}
 pub use Rattle.hir_facts.specs.NoHoles.{In, definition_input_has_no_hole, field_has_no_hole, in_first, in_flat, in_last, input_has_no_hole, item_has_no_hole, output_has_no_hole, type_there}
+pub use Rattle.hir_facts.specs.Objects.{AreOfPrincipal, FormerFits, IsAutoTrait, IsNewAlias, IsNewTrait, KindFits, ObjectFits}
 pub use Rattle.hir_facts.specs.Plain.{ArePlainStmts, HasPlainBody, HasSizedParams, IsPlainAdt, IsPlainBody, IsPlainBodyOf, IsPlainCtor, IsPlainExpr, IsPlainFn, IsPlainKind, IsPlainOver, IsPlainPat, IsPlainPath, IsPlainPathPat, IsPlainSet, IsPlainSignature, IsPlainStmt, IsPlainType, IsPlainWhere, IsPlainWritten, adt_fields, fields_by, has_plain_header, has_plain_params, is_callee, is_item, is_item_at, is_item_path, is_plain_adt_kind, is_plain_binding, is_plain_mode, is_tuple_ctor, is_tuple_variant, is_unit_ctor, is_unit_or_tuple, plain, stands_right}
 pub use Rattle.hir_facts.specs.PlainBodies.{LetFits, LetsFit, LooksPlain, WrittenFits, arm_has_values, has_callees, is_maybe_value, is_value, stmt_has_values}
 pub use Rattle.hir_facts.specs.PlainMarks.{ArePlainMarks, ArePlainNodes, IsMarked}
@@ -29,8 +31,8 @@ pub use Rattle.hir_facts.specs.Readers.{edition_year, limits_in_order}
 pub use Rattle.hir_facts.specs.Scheduled.{AreSchedules}
 pub use Rattle.hir_facts.specs.Scopes.{AreInScope, IsBoundBefore, IsInScope, ScopesHold}
 pub use Rattle.hir_facts.specs.Sized.{are_direct_structs, is_below, is_direct_struct, is_direct_variant, is_number, is_one_sized_lang, is_sized_of, is_sized_pred, is_sized_trait, only_param, param_number, sized_param}
-pub use Rattle.hir_facts.specs.Sizes.{AdtIsSmall, AliasIsSmall, BodyIsSmall, FnIsSmall, GoalIsShort, GoalsAreShort, ImplIsSmall, IsEarly, IsShort, ListIsShort, TraitIsSmall, TypeIsSmall, VariantIsSmall}
-pub use Rattle.hir_facts.specs.Standing.{HasNoHole, hole_at, most_by, most_in, param_bound, params_in, wrong_alias_count, wrong_args, wrong_count, wrongs_in}
+pub use Rattle.hir_facts.specs.Sizes.{AdtIsSmall, AliasIsSmall, BodyIsSmall, DynIsShort, FnIsSmall, FormerIsShort, GoalIsShort, GoalsAreShort, ImplIsSmall, IsEarly, IsShort, KindIsShort, ListIsShort, PrincipalIsShort, TraitIsSmall, TypeIsSmall, VariantIsSmall}
+pub use Rattle.hir_facts.specs.Standing.{HasNoHole, agree, agree_after_self, agree_with_adt, agree_with_alias, agree_with_principal, agree_with_trait, former_agrees, hole_at, is_const_hole, is_for, is_no_param, most_by, most_in, param_bound, params_in, wrong_alias_count, wrong_args, wrong_count, wrong_later, wrongs_in}
 unfoldable pub use Rattle.hir_facts.specs.Standing.{most_within}
 pub use Rattle.hir_facts.specs.Trees.{AreAlternatives, BoundByPattern, BoundByPatterns, BoundBySelf, IsWellFormed, IsWithin, StandOnce, follow_from}
 pub use Rattle.hir_facts.specs.Uses.{HoleFits, abstract_uses, body_uses, fn_uses, goal_uses, goals_uses, impl_uses, inner_uses, item_uses, mention_uses, trait_ref_uses, type_uses, variant_uses}

@@ -29,7 +29,7 @@ IsPlainKind raw P n (type.Adt a ts) = P a.0 × IsTrue (has_params (adt_params ra
 IsPlainKind raw P n (type.Projection a ts) = ⊥
 IsPlainKind raw P n (type.Param i) = i < n
 IsPlainKind raw P n type.Hole = ⊥
-IsPlainKind raw P n type.Other = ⊥
+IsPlainKind raw P n (type.Later x) = ⊥
 
 -- written type t is of such a kind, and so is each type that it is made of
 pub data IsPlainType (raw : RawFacts) (P : ℕ → Type 0) (n : ℕ) : ℕ → Type 0 where

@@ -1,8 +1,11 @@
 -- How long lists may be, and how deep trees and types.
-use Rattle.std.specs.Prelude.{ℕ, ◌<◌, ◌≤◌, ◌^◌, ◌≡◌, List, length, slice_get, Some, IfSome}
-use Rattle.hir_facts.specs.Words.{RawType, Mention, RawGoal, RawTrait, RawAlias, RawImpl, RawAdt, RawVariant, RawFn, RawBody, RawFacts, arg_types, AllMentioned, IsLow, depth, size, type_parts, lowered}
+use Rattle.std.specs.Prelude.{ℕ, ◌<◌, ◌≤◌, ◌^◌, ◌≡◌, List, length, slice_get, Option, Some, IfSome}
+use Rattle.hir_facts.specs.Words.{TraitId, TypeAliasId, Former, RawPrincipal, RawType, Mention, RawGoal, RawTrait, RawAlias, RawImpl, RawAdt, RawVariant, RawFn, RawBody, RawFacts, arg_types, AllMentioned, IsLow, type_parts}
+use Rattle.hir_raw.specs.declared.later_types.Former.TheVariants as former
+use Rattle.hir_raw.specs.declared.raw.RawType.TheVariants as type
 use Rattle.hir_raw.specs.declared.mention.Mention.TheVariants as it
 use Rattle.hir_raw.specs.declared.raw.RawGoal.TheVariants as goal
+use Rattle.hir_facts.specs.Measures.{depth_in, size_in}
 
 -- a list of at most 2 ^ 20 entries
 abbrev pub IsShort : {A : Type 0} → List A → Type 0
@@ -12,12 +15,48 @@ IsShort xs = length xs ≤ 2 ^ 20
 abbrev pub IsEarly : ℕ → Type 0
 IsEarly i = i < 2 ^ 20
 
+-- the lists of a type of a later kind beside its parts and consts
+abbrev pub PrincipalIsShort : Option RawPrincipal → Type 0
+PrincipalIsShort o = IfSome o (λ p. IsShort p.kinds)
+
+pub record DynIsShort (o : Option RawPrincipal) (as_ : List TypeAliasId) (ts : List TraitId) : Type 0 where
+  pub principal : PrincipalIsShort o
+  pub projections : IsShort as_
+  pub auto_traits : IsShort ts
+
+abbrev pub FormerIsShort : Former → Type 0
+FormerIsShort former.Str = Unit {0}
+FormerIsShort former.Never = Unit {0}
+FormerIsShort former.Error = Unit {0}
+FormerIsShort (former.Float f) = Unit {0}
+FormerIsShort former.Array = Unit {0}
+FormerIsShort former.Slice = Unit {0}
+FormerIsShort (former.Ref m l) = Unit {0}
+FormerIsShort (former.Ptr m) = Unit {0}
+FormerIsShort (former.FnPtr s) = Unit {0}
+FormerIsShort (former.Dyn o as_ ts) = DynIsShort o as_ ts
+FormerIsShort (former.Adt a ks) = IsShort ks
+FormerIsShort (former.Projection a ks) = IsShort ks
+FormerIsShort (former.Opaque o ks) = IsShort ks
+
+abbrev pub KindIsShort : RawType → Type 0
+KindIsShort type.Bool = Unit {0}
+KindIsShort type.Char = Unit {0}
+KindIsShort (type.Integer i) = Unit {0}
+KindIsShort (type.Tuple ts) = Unit {0}
+KindIsShort (type.Adt a ts) = Unit {0}
+KindIsShort (type.Projection a ts) = Unit {0}
+KindIsShort (type.Param n) = Unit {0}
+KindIsShort type.Hole = Unit {0}
+KindIsShort (type.Later x) = FormerIsShort x.former
+
 -- a type, written out
 pub record TypeIsSmall (raw : RawFacts) (i : ℕ) (t : RawType) : Type 0 where
   pub early : IsEarly i
   pub parts : IsShort (type_parts t)
-  pub low : depth (lowered raw.types i) ≤ 64
-  pub small : size (lowered raw.types i) ≤ 4096
+  pub lists : KindIsShort t
+  pub low : depth_in raw.types i ≤ 64
+  pub small : size_in raw.types i ≤ 4096
 
 -- the arguments of a goal are few
 abbrev pub GoalIsShort : RawGoal → Type 0

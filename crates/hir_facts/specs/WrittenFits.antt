@@ -55,7 +55,7 @@ OwnFits raw count type.Char = Unit {0}
 OwnFits raw count (type.Integer i) = Unit {0}
 OwnFits raw count (type.Tuple ts) = Unit {0}
 OwnFits raw count type.Hole = Unit {0}
-OwnFits raw count type.Other = Unit {0}
+OwnFits raw count (type.Later x) = Unit {0}
 
 none_wrong : (b : Bool) (n : ℕ) → n ≡ (if b then 0 else 1) → n ≡ 0 → b ≡ true
 none_wrong true n is h = refl
@@ -76,7 +76,7 @@ own_by raw count type.Char params args direct = tt
 own_by raw count (type.Integer i) params args direct = tt
 own_by raw count (type.Tuple ts) params args direct = tt
 own_by raw count type.Hole params args direct = tt
-own_by raw count type.Other params args direct = tt
+own_by raw count (type.Later x) params args direct = tt
 
 below : (a b c : ℕ) → a ≤ b → b ≤ c → a ≤ c
 below a b c p q = omega arith

@@ -75,7 +75,8 @@ fn lower(
         },
         RawType::Param(number) => Ok(Ty::Param(*number)),
         RawType::Hole => Ok(Ty::Hole),
-        RawType::Other => Ok(Ty::Error),
+        // What it stands for is not said yet, and no facts that are lawful have one.
+        RawType::Later(_) => Ok(Ty::Error),
     }
 }
 

@@ -24,7 +24,7 @@ fn carries_type(ty: &RawType) -> bool
         RawType::Bool | RawType::Char | RawType::Integer(_) | RawType::Tuple(_) => true,
         RawType::Adt { .. } | RawType::Projection { .. } => true,
         RawType::Param(_) | RawType::Hole => true,
-        RawType::Other => false,
+        RawType::Later(_) => false,
     }
 }
 
@@ -33,7 +33,7 @@ fn is_type_param(param: &RawParam) -> bool
 {
     match param {
         RawParam::Type => true,
-        RawParam::Other => false,
+        RawParam::Const(_) => false,
     }
 }
 

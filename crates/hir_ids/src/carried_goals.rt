@@ -13,7 +13,7 @@ fn carries_args(args: &RawArgs) -> bool
 {
     match args {
         RawArgs::Types(_) => true,
-        RawArgs::Other => false,
+        RawArgs::Later(_) => false,
     }
 }
 

@@ -1,11 +1,11 @@
 //! Ids are in range, and smaller where a list asks for it; each body is that of one definition.
 ghost use Rattle.std.specs.Prelude.{◌≡◌, ◌↔◌, ◌<◌, ℕ, Some, None, slice_get, length, IsTrue, IfSome};
-ghost use Rattle.hir_ids.specs.Words.{TypeRefId, ChildrenBefore, ItemExists, TypeIdsExist, ParentBefore, PlaceExists, VisExists, FnIdsExist};
+ghost use Rattle.hir_ids.specs.Words.{TypeRefId, ChildrenBefore, PrincipalExists, TraitsExist, AliasesExist, DynExists, FormerExists, ItemExists, TypeIdsExist, ParentBefore, PlaceExists, VisExists, FnIdsExist};
 
 use crate::goal_ids::have_goal_ids;
 use crate::test::Test;
-use hir_raw::{RawAt, RawFacts, RawFn, RawType, RawVis};
-use hir_types::{ModuleId, TypeRefId};
+use hir_raw::{Former, RawAt, RawFacts, RawFn, RawPrincipal, RawType, RawVis};
+use hir_types::{List, ModuleId, TraitId, TypeAliasId, TypeRefId};
 use std::alloc::{AllocError, Global};
 
 pub fn are_below(types: &[TypeRefId], bound: usize) -> bool
@@ -20,6 +20,70 @@ fn has_children_before(at: usize, ty: &RawType) -> bool
     are_below(ty.parts(), at)
 }
 
+fn has_trait(raw: &RawFacts, id: TraitId) -> bool
+    ensures { IsTrue result ↔ (id.0 < length raw.now.traits) }
+{
+    (id.0 as usize) < raw.traits.len()
+}
+
+fn has_principal(raw: &RawFacts, principal: &Option<RawPrincipal>) -> bool
+    ensures { IsTrue result ↔ PrincipalExists raw.now principal.now }
+{
+    match principal {
+        None => true,
+        Some(principal) => has_trait(raw, principal.trait_),
+    }
+}
+
+fn have_traits(raw: &RawFacts, traits: &[TraitId]) -> bool
+    ensures { IsTrue result ↔ TraitsExist raw.now traits.now }
+{
+    traits.iter().all(|id| has_trait(raw, *id))
+}
+
+fn has_alias(raw: &RawFacts, alias: TypeAliasId) -> bool
+    ensures { IsTrue result ↔ (alias.0 < length raw.now.aliases) }
+{
+    (alias.0 as usize) < raw.aliases.len()
+}
+
+fn have_aliases(raw: &RawFacts, aliases: &[TypeAliasId]) -> bool
+    ensures { IsTrue result ↔ AliasesExist raw.now aliases.now }
+{
+    aliases.iter().all(|alias| has_alias(raw, *alias))
+}
+
+fn has_object(
+    raw: &RawFacts,
+    principal: &Option<RawPrincipal>,
+    projections: &List<TypeAliasId>,
+    auto_traits: &List<TraitId>,
+) -> bool
+    ensures { IsTrue result ↔ DynExists raw.now principal.now projections.now auto_traits.now }
+{
+    has_principal(raw, principal)
+        && have_aliases(raw, projections.as_slice())
+        && have_traits(raw, auto_traits.as_slice())
+}
+
+fn has_named(raw: &RawFacts, former: &Former) -> bool
+    ensures { IsTrue result ↔ FormerExists raw.now former.now }
+{
+    match former {
+        Former::Dyn {
+            principal,
+            projections,
+            auto_traits,
+        } => has_object(raw, principal, projections, auto_traits),
+        Former::Adt { adt, kinds: _ } => (adt.0 as usize) < raw.adts.len(),
+        Former::Projection { alias, kinds: _ } => (alias.0 as usize) < raw.aliases.len(),
+        Former::Opaque { opaque, kinds: _ } => (opaque.0 as usize) < raw.opaques.len(),
+        Former::Str | Former::Never | Former::Error | Former::Float(_) => true,
+        Former::Array | Former::Slice | Former::Ref { .. } => true,
+        Former::Ptr(_) | Former::FnPtr(_) => true,
+    }
+}
+
 fn has_item(raw: &RawFacts, ty: &RawType) -> bool
     ensures { IsTrue result ↔ ItemExists raw.now ty.now }
 {
@@ -27,7 +91,8 @@ fn has_item(raw: &RawFacts, ty: &RawType) -> bool
         RawType::Adt { adt, args: _ } => (adt.0 as usize) < raw.adts.len(),
         RawType::Projection { alias, args: _ } => (alias.0 as usize) < raw.aliases.len(),
         RawType::Bool | RawType::Char | RawType::Integer(_) | RawType::Tuple(_) => true,
-        RawType::Param(_) | RawType::Hole | RawType::Other => true,
+        RawType::Param(_) | RawType::Hole => true,
+        RawType::Later(later) => has_named(raw, &later.former),
     }
 }
 
@@ -78,7 +143,7 @@ fn has_fn_ids(raw: &RawFacts, function: &RawFn) -> bool
         && has_body(raw, function)
 }
 
-/// The parts of a written type come before it, and an adt or associated type that it names exists.
+/// The parts of a written type come before it, and what it names beside them exists.
 pub struct TypeIds;
 
 impl Test for TypeIds {

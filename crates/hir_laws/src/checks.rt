@@ -1,6 +1,6 @@
 //! The tests of the laws, in their order.
 ghost use Rattle.std.specs.Prelude.{◌≡◌, IfOk, IfErr, MatchOption, Ok, Err};
-ghost use Rattle.hir_laws.specs.Words.{AllHold, TypeIdsExist, BodyIdsExist, AreSchedules, IsLawful, PassesAll, item_tests, unread_tests, abstract_tests, carried_tests, ids_tests, counts_tests, trees_tests, scopes_tests, sizes_tests, limits_tests, lang_tests, literals_tests, holes_tests, tests};
+ghost use Rattle.hir_laws.specs.Words.{AllHold, TypeIdsExist, BodyIdsExist, AreSchedules, IsLawful, PassesAll, item_tests, unread_tests, abstract_tests, carried_tests, ids_tests, counts_tests, trees_tests, scopes_tests, sizes_tests, limits_tests, lang_tests, literals_tests, holes_tests, type_tests, tests};
 ghost use Rattle.hir_laws.specs.Own.{Refuses};
 
 use crate::body_sizes::BodySizes;
@@ -13,8 +13,8 @@ use crate::scopes::{Scopes, schedules_of};
 use crate::trees::Trees;
 use hir_counts::{
     AdtCounts, AdtSizes, AliasCounts, AliasSizes, FnCounts, FnSizes, Holes, ImplCounts, ImplSizes,
-    LangEarly, ModulesEarly, Standing, TraitCounts, TraitSizes, TypeSizes, VariantCounts,
-    VariantSizes,
+    LangEarly, ModulesEarly, Standing, TraitCounts, TraitSizes, TypeCounts, TypeSizes,
+    VariantCounts, VariantSizes,
 };
 use hir_facts::{FactsList, Law};
 use hir_ids::{
@@ -39,8 +39,6 @@ fn check_items(alloc: Global, raw: &RawFacts) -> Result<(), FactsError>
     ensures ok { IfOk result (λ _. PassesAll raw.now item_tests) }
     ensures err { IfErr result (λ e. Refuses raw.now item_tests e) }
 {
-    let types = first_broken(alloc, &TypesCarried, raw, raw.types.as_slice())?;
-    allow(Law::Carried, FactsList::Types, types)?;
     let adts = first_broken(alloc, &AdtsCarried, raw, raw.adts.as_slice())?;
     allow(Law::Carried, FactsList::Adts, adts)?;
     let found = ProjectionMarks::new(alloc, raw)?;
@@ -125,6 +123,8 @@ fn check_counts(alloc: Global, raw: &RawFacts) -> Result<(), FactsError>
     ensures ok { IfOk result (λ _. PassesAll raw.now counts_tests) }
     ensures err { IfErr result (λ e. Refuses raw.now counts_tests e) }
 {
+    let types = first_broken(alloc, &TypeCounts, raw, raw.types.as_slice())?;
+    allow(Law::Counts, FactsList::Types, types)?;
     let standing = Standing::new(alloc, raw)?;
     let adt_counts = AdtCounts {
         standing: &standing,
@@ -264,6 +264,15 @@ fn check_holes(alloc: Global, raw: &RawFacts) -> Result<(), FactsError>
     Ok(())
 }
 
+fn check_types(alloc: Global, raw: &RawFacts) -> Result<(), FactsError>
+    ensures ok { IfOk result (λ _. PassesAll raw.now type_tests) }
+    ensures err { IfErr result (λ e. Refuses raw.now type_tests e) }
+{
+    let types = first_broken(alloc, &TypesCarried, raw, raw.types.as_slice())?;
+    allow(Law::Carried, FactsList::Types, types)?;
+    Ok(())
+}
+
 /// Finds the first law that is broken, or the numbers of the bodies.
 pub fn check(alloc: Global, raw: &RawFacts) -> Result<List<Schedule>, FactsError>
     ensures lawful { IfOk result (λ _. IsLawful raw.now) }
@@ -281,5 +290,6 @@ pub fn check(alloc: Global, raw: &RawFacts) -> Result<List<Schedule>, FactsError
     check_lang(alloc, raw)?;
     check_literals(alloc, raw, &schedules)?;
     check_holes(alloc, raw)?;
+    check_types(alloc, raw)?;
     Ok(schedules)
 }

@@ -13,7 +13,7 @@ kind_more raw P Q n more (type.Adt a ts) h = (more a.0 h.0, h.1)
 kind_more raw P Q n more (type.Projection a ts) h = h
 kind_more raw P Q n more (type.Param i) h = h
 kind_more raw P Q n more type.Hole h = h
-kind_more raw P Q n more type.Other h = h
+kind_more raw P Q n more (type.Later x) h = h
 
 -- where more adts are plain, more types are
 pub type_more : (raw : RawFacts) (P Q : ℕ → Type 0) (n : ℕ) → ((a : ℕ) → P a → Q a) → (t : ℕ) → IsPlainType raw P n t → IsPlainType raw Q n t

@@ -182,7 +182,7 @@ module _ (raw : RawFacts) (law : IsLawful raw) where
   named_inside (type.Projection a ts) k c h found = absurd (cc)
   named_inside (type.Param n) k c h found = absurd (cc)
   named_inside type.Hole k c h found = absurd (cc)
-  named_inside type.Other k c h found = absurd (cc)
+  named_inside (type.Later x) k c h found = absurd (cc)
 
   child_inside : (t : ℕ) (x : RawType) (c : ℕ) → slice_get raw.types t ≡ Some x → TypeChild x c → c < count + length raw.adts
   child_inside t x c found (part k u here is) = let before : u.0 < t = type_ids raw law t x found k u here in let lt : t < length raw.types = slice_get_within raw.types t x found in omega arith
@@ -215,7 +215,7 @@ module _ (raw : RawFacts) (law : IsLawful raw) where
   kind_fine P n (type.Projection a ts) h = absurd h
   kind_fine P n (type.Param i) h = refl
   kind_fine P n type.Hole h = absurd h
-  kind_fine P n type.Other h = absurd h
+  kind_fine P n (type.Later x) h = absurd h
 
   -- from where a way leads to a bad node, no plain type or adt stands, whatever set of adts is closed
   pub record NotPlain (P : ℕ → Type 0) (node : ℕ) : Type 0 where
@@ -244,7 +244,7 @@ module _ (raw : RawFacts) (law : IsLawful raw) where
     named_not n (type.Projection a ts) k c own found not = absurd (cc)
     named_not n (type.Param i) k c own found not = absurd (cc)
     named_not n type.Hole k c own found not = absurd (cc)
-    named_not n type.Other k c own found not = absurd (cc)
+    named_not n (type.Later x) k c own found not = absurd (cc)
 
     through_type : (node n k c : ℕ) → Edge (plain_graph raw) node k c → NotPlain P c → IsPlainType raw P n node → ⊥
     through_type node n k c edge not (plain _ x found own parts) = elim (type_child node x found k c edge) as (λ _. ⊥) [
@@ -285,7 +285,7 @@ module _ (raw : RawFacts) (law : IsLawful raw) where
     kind_marked n (type.Projection a ts) fine fits marked = absurd fits
     kind_marked n (type.Param i) fine fits marked = fits
     kind_marked n type.Hole fine fits marked = absurd (cc)
-    kind_marked n type.Other fine fits marked = absurd (cc)
+    kind_marked n (type.Later x) fine fits marked = absurd (cc)
 
     -- no projection stands in a marked type
     fine_direct : (x : RawType) → is_fine_type x ≡ true → is_alias x ≡ false

@@ -15,7 +15,7 @@ named_adt count (type.Tuple ts) = []
 named_adt count (type.Projection a ts) = []
 named_adt count (type.Param n) = []
 named_adt count type.Hole = []
-named_adt count type.Other = []
+named_adt count (type.Later x) = []
 
 -- the children of a type are its parts and the adt that it names
 abbrev pub type_children : ℕ → RawType → List ℕ
@@ -42,7 +42,7 @@ is_fine_type (type.Adt a ts) = true
 is_fine_type (type.Projection a ts) = false
 is_fine_type (type.Param n) = true
 is_fine_type type.Hole = false
-is_fine_type type.Other = false
+is_fine_type (type.Later x) = false
 
 -- which nodes may be plain, apart from what they are made of
 abbrev pub fine_nodes : RawFacts → List Bool

@@ -129,7 +129,7 @@ fn is_fine_type(ty: &RawType) -> bool
     match ty {
         RawType::Bool | RawType::Char | RawType::Integer(_) | RawType::Tuple(_) => true,
         RawType::Adt { .. } | RawType::Param(_) => true,
-        RawType::Projection { .. } | RawType::Hole | RawType::Other => false,
+        RawType::Projection { .. } | RawType::Hole | RawType::Later(_) => false,
     }
 }
 

@@ -6,10 +6,10 @@ use Rattle.hir_raw.specs.declared.raw.RawArgs.TheVariants as args
 use Rattle.hir_raw.specs.declared.raw.RawLang.{RawLang}
 use Rattle.hir_raw.specs.declared.raw.RawLang.TheVariants as lang
 
--- the types among arguments; none are read where some argument is a const
+-- the types among arguments
 abbrev pub arg_types : RawArgs → List TypeRefId
 arg_types (args.Types ts) = ts
-arg_types args.Other = []
+arg_types (args.Later x) = x.types
 
 -- the item says that the trait is that of types whose size is known
 abbrev pub is_sized_lang : TraitId → RawLang → Bool

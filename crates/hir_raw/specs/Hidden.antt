@@ -14,6 +14,7 @@ use Rattle.hir_raw.specs.declared.raw.RawVariant.{RawVariant}
 
 -- ---- which they are
 
+-- of the kinds that are carried
 abbrev pub is_alias : RawType → Bool
 is_alias type.Bool = false
 is_alias type.Char = false
@@ -23,7 +24,7 @@ is_alias (type.Adt a ts) = false
 is_alias (type.Projection a ts) = true
 is_alias (type.Param n) = false
 is_alias type.Hole = false
-is_alias type.Other = false
+is_alias (type.Later x) = false
 
 -- by its number: of a type, over those of its parts
 abbrev pub aliases_by : ℕ → (ℕ → List ℕ) → Option RawType → List ℕ

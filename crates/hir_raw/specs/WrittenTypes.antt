@@ -1,6 +1,7 @@
 -- What a written type stands for.
 use Rattle.std.specs.Prelude.{◌≡◌, ℕ, zero, suc, List, [], map, slice_get, Option, Some, None}
 use Rattle.hir_raw.specs.Words.{TypeRefId, Ty, integer_type}
+use Rattle.hir_raw.specs.declared.later.RawConst.{RawConst}
 use Rattle.hir_raw.specs.declared.raw.RawType.{RawType}
 use Rattle.hir_raw.specs.declared.raw.RawType.TheVariants as type
 use Rattle.hir_types.specs.declared.ty.Ty.TheVariants as ty
@@ -16,11 +17,24 @@ type_parts (type.Adt a ts) = ts
 type_parts (type.Projection a ts) = ts
 type_parts (type.Param n) = []
 type_parts type.Hole = []
-type_parts type.Other = []
+type_parts (type.Later x) = x.parts
+
+-- the consts that stand in a written type beside them
+abbrev pub type_consts : RawType → List RawConst
+type_consts type.Bool = []
+type_consts type.Char = []
+type_consts (type.Integer i) = []
+type_consts (type.Tuple ts) = []
+type_consts (type.Adt a ts) = []
+type_consts (type.Projection a ts) = []
+type_consts (type.Param n) = []
+type_consts type.Hole = []
+type_consts (type.Later x) = x.consts
 
 -- ---- where each `_` stands for a type
 
--- what a type stands for over what its parts stand for, where a `_` here stands for u
+-- What a type stands for over what its parts stand for, where a `_` here stands for u. What a type of a kind that inference does not carry
+-- yet stands for is not said yet.
 abbrev pub filled_by : Ty → (ℕ → Ty) → Option RawType → Ty
 filled_by u f None = ty.Error
 filled_by u f (Some type.Bool) = ty.Bool
@@ -31,7 +45,7 @@ filled_by u f (Some (type.Adt a ts)) = ty.Adt a (map (λ t. arg.Ty (f t.0)) ts)
 filled_by u f (Some (type.Projection a ts)) = ty.Projection a (map (λ t. arg.Ty (f t.0)) ts)
 filled_by u f (Some (type.Param n)) = ty.Param n
 filled_by u f (Some type.Hole) = u
-filled_by u f (Some type.Other) = ty.Error
+filled_by u f (Some (type.Later x)) = ty.Error
 
 -- what type t of the list stands for, over parts at most n steps below it, where the `_` that is type k
 -- stands for h k

@@ -5,6 +5,7 @@
 mod fit;
 mod hidden;
 mod later;
+mod later_types;
 mod lets;
 mod mention;
 mod raw;
@@ -17,6 +18,7 @@ pub use later::{
     ArithOp, BinaryOp, CmpOp, LaterExpr, LaterLiteral, LaterPat, LaterPath, LogicOp, RawArg,
     RawClosureParam, RawConst, RawRecordField, RawRecordFieldPat, RawVariantPath, UnaryOp,
 };
+pub use later_types::{ArgKind, Former, LaterArgs, LaterType, RawPrincipal};
 pub use lets::{let_aliases, stmts_of};
 pub use mention::{LabelRole, Mention, Said};
 pub use raw::{

@@ -3,10 +3,11 @@
 ghost use Rattle.std.specs.Prelude.{◌≡◌, List};
 ghost use Rattle.hir_raw.specs.declared.raw.RawGoal.{RawGoal};
 ghost use Rattle.hir_raw.specs.Goals.{arg_types};
-ghost use Rattle.hir_raw.specs.WrittenTypes.{type_parts};
+ghost use Rattle.hir_raw.specs.WrittenTypes.{type_consts, type_parts};
 ghost use Rattle.hir_raw.specs.Hidden.{is_alias};
 
-use crate::later::{LaterExpr, LaterPat};
+use crate::later::{LaterExpr, LaterPat, RawConst};
+use crate::later_types::{LaterArgs, LaterType};
 use hir_types::{
     AdtId, BindingId, BodyId, ConstId, ExprId, FunctionId, IntegerTy, LabelId, List, ModuleId,
     PatId, Text, TraitId, TypeAliasId, TypeRefId, VariantId,
@@ -59,7 +60,8 @@ pub enum RawType {
     Param(u32),
     /// `_`.
     Hole,
-    Other,
+    /// A type of a kind that inference does not carry yet.
+    Later(LaterType),
 }
 
 impl RawType {
@@ -71,7 +73,7 @@ impl RawType {
             RawType::Projection { alias: _, args: _ } => true,
             RawType::Bool | RawType::Char | RawType::Integer(_) | RawType::Tuple(_) => false,
             RawType::Adt { adt: _, args: _ } => false,
-            RawType::Param(_) | RawType::Hole | RawType::Other => false,
+            RawType::Param(_) | RawType::Hole | RawType::Later(_) => false,
         }
     }
 
@@ -84,26 +86,40 @@ impl RawType {
             RawType::Adt { adt: _, args } => args.as_slice(),
             RawType::Projection { alias: _, args } => args.as_slice(),
             RawType::Bool | RawType::Char | RawType::Integer(_) => &[],
-            RawType::Param(_) | RawType::Hole | RawType::Other => &[],
+            RawType::Param(_) | RawType::Hole => &[],
+            RawType::Later(later) => later.parts.as_slice(),
+        }
+    }
+
+    /// The consts that stand in a written type beside them, in their order.
+    pub fn consts(&self) -> &[RawConst]
+        ensures { result.now ≡ type_consts self.now }
+    {
+        match self {
+            RawType::Later(later) => later.consts.as_slice(),
+            RawType::Bool | RawType::Char | RawType::Integer(_) | RawType::Tuple(_) => &[],
+            RawType::Adt { adt: _, args: _ } => &[],
+            RawType::Projection { alias: _, args: _ } => &[],
+            RawType::Param(_) | RawType::Hole => &[],
         }
     }
 }
 
-/// Written arguments: types, or some that are consts, which are not read.
+/// Written arguments: types, or some that are consts, which inference does not carry yet.
 #[derive(Debug, Drop)]
 pub enum RawArgs {
     Types(List<TypeRefId>),
-    Other,
+    Later(LaterArgs),
 }
 
 impl RawArgs {
-    /// The types, in their order; none where some argument is a const.
+    /// The types among them, in their order.
     pub fn types(&self) -> &[TypeRefId]
         ensures { result.now ≡ arg_types self.now }
     {
         match self {
             RawArgs::Types(types) => types.as_slice(),
-            RawArgs::Other => &[],
+            RawArgs::Later(later) => later.types.as_slice(),
         }
     }
 }
@@ -132,7 +148,8 @@ pub enum RawGoal {
 #[derive(Clone, Copy, Debug)]
 pub enum RawParam {
     Type,
-    Other,
+    /// A const of this type.
+    Const(TypeRefId),
 }
 
 /// Which of the three an adt is.

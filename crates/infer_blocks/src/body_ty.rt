@@ -57,7 +57,8 @@ fn lower_part(
             let ty = placeholder_ty(alloc, context, given, type_ref)?;
             Ok(ty)
         }
-        RawType::Other => Ok(Ty::Error),
+        // No facts that are lawful have one.
+        RawType::Later(_) => Ok(Ty::Error),
     }
 }
 

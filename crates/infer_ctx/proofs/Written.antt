@@ -42,7 +42,7 @@ module _ (raw : RawFacts) (count : ℕ) (associated : Bool) (types : List RawTyp
   filled_by_fine i f (type.Projection a ts) at good o c each = absurd o
   filled_by_fine i f (type.Param n) at good o c each = carried_fine state Here (ty.Param n) (carried_param n) (heads_param Here n (lt-ltb n count o))
   filled_by_fine i f type.Hole at good o c each = good i (is_itself at)
-  filled_by_fine i f type.Other at good o c each = absurd (true≢false (sym c))
+  filled_by_fine i f (type.Later x) at good o c each = absurd (true≢false (sym c))
 
   filled_within_fine : (n i : ℕ) → i < n → Fits i → AreGood i → Good (filled_within h n types i)
   unfolding filled_within

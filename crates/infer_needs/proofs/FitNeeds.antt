@@ -45,7 +45,7 @@ same_test m n is = grind arith
 
 module _ (raw : RawFacts) (law : IsLawful raw) where
   aliases_exist : AllHold (AliasIdsExist raw) raw.aliases
-  aliases_exist = law.all.1.1.1.1.1.1.1.1.1.1.1.1.1.1.1.1.1.0
+  aliases_exist = law.all.1.1.1.1.1.1.1.1.1.1.1.1.1.1.1.1.0
 
   many_taken : (k : TypeAliasId) (ws : List TypeRefId) → k.0 < length raw.aliases → length ws ≡ counts.alias_params raw (slice_get raw.aliases k.0) → has_params (alias_params raw k) (length ws) ≡ true
   many_taken k ws within many =

@@ -90,7 +90,7 @@ module _ (raw : RawFacts) (n : ℕ) (xs : List GenericArg) (params : (m : ℕ) �
       over_taken (alias_params raw a) m f below c ts none (alias_counted (alias_params raw a) ts (own_none c (most (map (λ t. m t.0) ts)) none))
   layer_fits m f below (Some (type.Param k)) none = params k
   layer_fits m f below (Some type.Hole) none = refl
-  layer_fits m f below (Some type.Other) none = refl
+  layer_fits m f below (Some (type.Later x)) none = refl
 
   within_fits : (k i : ℕ) → most_within (wrong_args raw) k raw.types i ≡ 0 → Fits raw n (term (replaced (with_params xs) (filled_within (λ j. ty.Hole) k raw.types i)))
   unfolding filled_within most_within

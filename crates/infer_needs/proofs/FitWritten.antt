@@ -90,7 +90,7 @@ module _ (raw : RawFacts) (law : IsLawful raw) (n : ℕ) where
           (over_args (alias_params raw a) ts (alias_counted (alias_params raw a) ts (none_wrong i (type.Projection a ts) h at)) (parts_fit i (type.Projection a ts) h at))
       filled_fits i h (Some (type.Param p)) at = subst (Fits raw n) (sym (term_param p)) (both_true (nat_lt p n) true (lt-ltb p n (param_within i p h at)) refl)
       filled_fits i h (Some type.Hole) at = subst (Fits raw n) (sym term_hole) refl
-      filled_fits i h (Some type.Other) at = subst (Fits raw n) (sym term_error) refl
+      filled_fits i h (Some (type.Later x)) at = subst (Fits raw n) (sym term_error) refl
 
   within_fits : (m i : ℕ) → There i → Fits raw n (term (filled_within (λ k. ty.Hole) m raw.types i))
   unfolding filled_within

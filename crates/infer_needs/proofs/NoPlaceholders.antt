@@ -58,7 +58,7 @@ module _
   layer_at m f below (Some (type.Projection a ts)) none = over_parts (head.Projection a) tt m f below ts none
   layer_at m f below (Some (type.Param n)) none = params n
   layer_at m f below (Some type.Hole) none = absurd (omega arith)
-  layer_at m f below (Some type.Other) none = bare head.Error tt
+  layer_at m f below (Some (type.Later x)) none = bare head.Error tt
 
   within_at : (n i : ℕ) → most_within hole_at n raw.types i ≡ 0 → P (term (replaced (with_params xs) (filled_within (λ k. ty.Hole) n raw.types i)))
   unfolding filled_within most_within
@@ -174,13 +174,13 @@ module _ (raw : RawFacts) (law : IsLawful raw) where
   -- ---- predicates and bounds
 
   traits_exist : AllHold (TraitIdsExist raw) raw.traits
-  traits_exist = law.all.1.1.1.1.1.1.1.1.1.1.1.1.1.1.1.1.0
+  traits_exist = law.all.1.1.1.1.1.1.1.1.1.1.1.1.1.1.1.0
 
   aliases_exist : AllHold (AliasIdsExist raw) raw.aliases
-  aliases_exist = law.all.1.1.1.1.1.1.1.1.1.1.1.1.1.1.1.1.1.0
+  aliases_exist = law.all.1.1.1.1.1.1.1.1.1.1.1.1.1.1.1.1.0
 
   pub impls_exist : AllHold (λ i p. ImplIdsExist raw p) raw.impls
-  impls_exist = law.all.1.1.1.1.1.1.1.1.1.1.1.1.1.1.1.1.1.1.0
+  impls_exist = law.all.1.1.1.1.1.1.1.1.1.1.1.1.1.1.1.1.1.0
 
   pub trait_has_none : (t : TraitId) → GoalsHaveNoHole raw (trait_preds raw t)
   trait_has_none t = maybe_none (λ (x : RawTrait). x.preds) raw.traits in_traits t.0 (slice_get raw.traits t.0) refl (λ x here. (traits_exist t.0 x here).preds)

@@ -279,7 +279,7 @@ module _ (raw : RawFacts) (law : IsLawful raw) (n : ℕ) where
   -- ---- what bounds say
 
   aliases_exist : AllHold (AliasIdsExist raw) raw.aliases
-  aliases_exist = law.all.1.1.1.1.1.1.1.1.1.1.1.1.1.1.1.1.1.0
+  aliases_exist = law.all.1.1.1.1.1.1.1.1.1.1.1.1.1.1.1.1.0
 
   trait_there : (ts : List RawTrait) (i : ℕ) → i < length ts → (x : RawTrait) × (slice_get ts i ≡ Some x)
   trait_there [] i lt = absurd (omega (arith, lt))

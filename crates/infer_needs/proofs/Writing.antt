@@ -52,7 +52,7 @@ filled_written f h (Some (type.Adt a ts)) = subst IsAsWritten (sym (term_adt a (
 filled_written f h (Some (type.Projection a ts)) = subst IsAsWritten (sym (term_projection a (map (λ t. arg.Ty (f t.0)) ts))) (inl tt, args_written f h ts)
 filled_written f h (Some (type.Param n)) = subst IsAsWritten (sym (term_param n)) (inl tt, inl tt)
 filled_written f h (Some type.Hole) = subst IsAsWritten (sym term_hole) (inr tt, inl tt)
-filled_written f h (Some type.Other) = subst IsAsWritten (sym term_error) (inl tt, inl tt)
+filled_written f h (Some (type.Later x)) = subst IsAsWritten (sym term_error) (inl tt, inl tt)
 
 within_written : (types : List RawType) (n t : ℕ) → IsAsWritten (term (filled_within (λ k. ty.Hole) n types t))
 unfolding filled_within

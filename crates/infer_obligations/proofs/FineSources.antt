@@ -128,7 +128,7 @@ alias_not params f (type.Tuple ts) alias c = true≢false (sym alias)
 alias_not params f (type.Adt a ts) alias c = true≢false (sym alias)
 alias_not params f (type.Param n) alias c = true≢false (sym alias)
 alias_not params f type.Hole alias c = true≢false (sym alias)
-alias_not params f type.Other alias c = true≢false (sym alias)
+alias_not params f (type.Later x) alias c = true≢false (sym alias)
 
 in_chain : (f : ℕ → Term) (ts : List TypeRefId) (k : ℕ) (u : TypeRefId) → IsConcrete (chain (parts_by f ts)) → slice_get ts k ≡ Some u → IsConcrete (f u.0)
 in_chain f [] k u c at = absurd (cc)
@@ -311,10 +311,10 @@ module _ (raw : RawFacts) (law : IsLawful raw) where
   impls_fit = law.all.1.1.1.1.1.1.1.1.1.1.1.1.1.1.1.1.1.1.1.1.1.1.1.1.1.1.0
 
   traits_exist : AllHold (TraitIdsExist raw) raw.traits
-  traits_exist = law.all.1.1.1.1.1.1.1.1.1.1.1.1.1.1.1.1.0
+  traits_exist = law.all.1.1.1.1.1.1.1.1.1.1.1.1.1.1.1.0
 
   impls_exist : AllHold (λ i p. ImplIdsExist raw p) raw.impls
-  impls_exist = law.all.1.1.1.1.1.1.1.1.1.1.1.1.1.1.1.1.1.1.0
+  impls_exist = law.all.1.1.1.1.1.1.1.1.1.1.1.1.1.1.1.1.1.0
 
   adts_exist : (a : ℕ) (x : RawAdt) → slice_get raw.adts a ≡ Some x → GoalsExist raw x.preds
   adts_exist a x at = (adt_ids raw law a x at).preds

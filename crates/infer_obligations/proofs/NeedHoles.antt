@@ -75,7 +75,7 @@ module _ (kinds : List HoleKind) where
     layer_made i (Some (type.Projection a ts)) at f h = over (head.Projection a) (chain (parts_by f ts)) (parts_made f h ts)
     layer_made i (Some (type.Param m)) at f h = args m
     layer_made i (Some type.Hole) at f h = bare head.Hole
-    layer_made i (Some type.Other) at f h = bare head.Error
+    layer_made i (Some (type.Later x)) at f h = bare head.Error
 
     type_made : (w : TypeRefId) → Made (type_at raw xs w)
     type_made w = by_layers raw xs Made (bare head.Error) layer_made w

@@ -111,7 +111,7 @@ head_by u f g (Some (type.Adt a ts)) h has =
 head_by u f g (Some (type.Projection a ts)) h has = absurd (no_projection_head a (map (λ t. arg.Ty (g t.0)) ts) h has)
 head_by u f g (Some (type.Param n)) h has = has
 head_by u f g (Some type.Hole) h has = absurd (no_hole_head h has)
-head_by u f g (Some type.Other) h has = has
+head_by u f g (Some (type.Later x)) h has = has
 
 pub filled_head : (fill : ℕ → Ty) (types : List RawType) (w : TypeRefId) (h : Outermost)
     → HasHead (written_type types w) h → HasHead (filled_type fill types w) h

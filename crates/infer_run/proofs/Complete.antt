@@ -42,6 +42,7 @@ passes_and_fails raw law.Ids list.Variants i p q = clash _ _ i p q
 passes_and_fails raw law.Ids list.Fns i p q = clash _ _ i p q
 passes_and_fails raw law.Ids list.Bodies i p q = clash _ _ i p q
 passes_and_fails raw law.Ids k i p q = clash _ _ i p q
+passes_and_fails raw law.Counts list.Types i p q = clash _ _ i p q
 passes_and_fails raw law.Counts list.Adts i p q = clash _ _ i p q
 passes_and_fails raw law.Counts list.Variants i p q = clash _ _ i p q
 passes_and_fails raw law.Counts list.Fns i p q = clash _ _ i p q

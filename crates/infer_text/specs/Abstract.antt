@@ -9,6 +9,7 @@ use Rattle.infer_text.specs.declared.abstractions.Lang.{Lang}
 use Rattle.infer_text.specs.Reading.{◌>>=◌, ◌>>◌, there, under, field, part, keys_in, parts_in, bool_in, text_in, option_in, list_in}
 use Rattle.infer_text.specs.Leaves.{trait_in, alias_id_in, const_id_in, function_id_in, type_ref_in}
 use Rattle.infer_text.specs.Entries.{param_in, goal_in, trait_ref_at}
+use Rattle.infer_text.specs.LaterTypes.{assoc_type_in}
 
 -- ---- traits
 
@@ -45,14 +46,6 @@ alias_in d = do
 -- [t, [A]]
 unfoldable pub impl_trait_in : Data → Result RawTraitRef (List ℕ)
 impl_trait_in d = parts_in 2 d >> trait_ref_at 0 d
-
--- [alias, TYPE]
-unfoldable pub assoc_type_in : Data → Result RawAssocType (List ℕ)
-assoc_type_in d = do
-  parts_in 2 d
-  alias ← part alias_id_in 0 d
-  given ← part type_ref_in 1 d
-  Ok (record { alias = alias; ty = given })
 
 unfoldable pub impl_in : Data → Result RawImpl (List ℕ)
 impl_in d = do

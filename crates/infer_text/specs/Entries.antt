@@ -1,21 +1,20 @@
 -- What stands for types, functions, adts, variants and limits.
-use Rattle.std.specs.List.{list_all}
-use Rattle.std.specs.Prelude.{ℕ, ◌+◌, ◌==◌, Bool, true, false, List, [], map, Option, Some, None, Result, Ok, Err, codes, if◌then◌else◌}
+use Rattle.std.specs.Prelude.{ℕ, ◌+◌, ◌==◌, List, [], Option, Some, None, Result, Ok, Err, codes, if◌then◌else◌}
 use Rattle.std.specs.Str.{bytes_eq}
 use Rattle.serde_json.specs.Data.{Data}
 use Rattle.serde_json.specs.Find.{as_str}
-use Rattle.infer_text.specs.Words.{AdtId, TypeAliasId, TypeRefId, IntegerTy, RawType, RawArgs, RawTraitRef, RawGoal, RawAt, RawVis, RawParam, RawAdt, RawField, RawVariant, RawFn, RawLimits}
+use Rattle.infer_text.specs.Words.{AdtId, TypeAliasId, IntegerTy, RawType, RawArgs, RawTraitRef, RawGoal, RawAt, RawVis, RawParam, RawAdt, RawField, RawVariant, RawFn, RawLimits}
 use Rattle.infer_text.specs.Words.hir_raw.declared.raw.RawType.TheVariants as type
 use Rattle.infer_text.specs.Words.hir_raw.declared.raw.RawArgs.TheVariants as args
 use Rattle.infer_text.specs.Words.hir_raw.declared.raw.RawGoal.TheVariants as goal
 use Rattle.infer_text.specs.Words.hir_raw.declared.raw.RawAt.TheVariants as stands
 use Rattle.infer_text.specs.Words.hir_raw.declared.raw.RawVis.TheVariants as vis
 use Rattle.infer_text.specs.Words.hir_raw.declared.raw.RawParam.TheVariants as param
-use Rattle.infer_text.specs.declared.entries.Arg.{Arg}
-use Rattle.infer_text.specs.declared.entries.Arg.TheVariants as argument
-use Rattle.infer_text.specs.Reading.{◌>>=◌, ◌>>◌, there, field, part, keys_in, parts_in, tag, is_tag, is_kind_of, bool_in, text_in, u32_in, option_in, list_in}
+use Rattle.infer_text.specs.Words.hir_raw.declared.later_types.Former.TheVariants as former
+use Rattle.infer_text.specs.Reading.{◌>>=◌, ◌>>◌, there, field, part, keys_in, parts_in, tag, is_tag, bool_in, text_in, u32_in, option_in, list_in}
 use Rattle.infer_text.specs.Leaves.{module_in, trait_in, alias_id_in, adt_id_in, variant_id_in, type_ref_in, body_id_in, integer_name, integer_in, adt_kind_in, ctor_in}
-use Rattle.infer_text.specs.Kinds.{other_types}
+use Rattle.infer_text.specs.LaterTypes.{later_type_in}
+use Rattle.infer_text.specs.WrittenArgs.{args_in}
 
 -- ---- types
 
@@ -23,42 +22,18 @@ use Rattle.infer_text.specs.Kinds.{other_types}
 abbrev pub integer_tag : List ℕ × ℕ → Option IntegerTy
 integer_tag t = if t.1 == 0 then integer_name t.0 else None
 
-abbrev named_by : Option IntegerTy → List ℕ × ℕ → Result RawType (List ℕ)
-named_by (Some i) t = Ok (type.Integer i)
-named_by None t = if is_kind_of other_types t then Ok type.Other else Err []
+abbrev named_by : Option IntegerTy → List ℕ × ℕ → Data → Result RawType (List ℕ)
+named_by (Some i) t d = Ok (type.Integer i)
+named_by None t d = later_type_in t d >>= λ x. Ok (type.Later x)
 
--- an integer type, or a kind that is not read
-unfoldable pub named_type : List ℕ × ℕ → Result RawType (List ℕ)
-named_type t = named_by (integer_tag t) t
+-- an integer type, or one of a kind that inference does not carry yet
+unfoldable pub named_type : List ℕ × ℕ → Data → Result RawType (List ℕ)
+named_type t d = named_by (integer_tag t) t d
 
--- ["t", TYPE] or ["c", C], of which the last is not read
-unfoldable pub arg_in : Data → Result Arg (List ℕ)
-arg_in d = do
-  t ← there (tag d)
-  if is_tag t (codes "t") 2 then part type_ref_in 1 d >>= (λ w. Ok (argument.Type w)) else
-      if is_tag t (codes "c") 2 then Ok argument.Const else
-      Err []
-
-abbrev pub is_type : Arg → Bool
-is_type (argument.Type w) = true
-is_type argument.Const = false
-
--- the type of an argument; a const argument has none
-abbrev pub arg_type : Arg → TypeRefId
-arg_type (argument.Type w) = w
-arg_type argument.Const = record { 0 = 0 }
-
--- types alone are read
-abbrev pub args_by : List Arg → RawArgs
-args_by xs = if list_all is_type xs then args.Types (map arg_type xs) else args.Other
-
-unfoldable pub args_in : Data → Result RawArgs (List ℕ)
-args_in d = list_in arg_in d >>= λ xs. Ok (args_by xs)
-
--- an adt at types alone is read
+-- an adt at types alone, or at some consts
 abbrev pub adt_type_by : AdtId → RawArgs → RawType
 adt_type_by a (args.Types ts) = type.Adt a ts
-adt_type_by a args.Other = type.Other
+adt_type_by a (args.Later xs) = type.Later (record { former = former.Adt a xs.kinds; parts = xs.types; consts = xs.consts })
 
 unfoldable pub adt_type_in : Data → Result RawType (List ℕ)
 adt_type_in d = do
@@ -69,7 +44,7 @@ adt_type_in d = do
 -- so is an associated type
 abbrev pub projection_type_by : TypeAliasId → RawArgs → RawType
 projection_type_by a (args.Types ts) = type.Projection a ts
-projection_type_by a args.Other = type.Other
+projection_type_by a (args.Later xs) = type.Later (record { former = former.Projection a xs.kinds; parts = xs.types; consts = xs.consts })
 
 unfoldable pub projection_type_in : Data → Result RawType (List ℕ)
 projection_type_in d = do
@@ -78,7 +53,7 @@ projection_type_in d = do
   Ok (projection_type_by a xs)
 
 -- "bool", "char", "_", ["tuple", [TYPE]], ["adt", a, [A]], ["proj", alias, [A]], ["param", n], the name of an
--- integer type, or another kind
+-- integer type, or one of a later kind
 unfoldable pub type_in : Data → Result RawType (List ℕ)
 type_in d = do
   t ← there (tag d)
@@ -89,14 +64,14 @@ type_in d = do
       if is_tag t (codes "proj") 3 then projection_type_in d else
       if is_tag t (codes "param") 2 then part u32_in 1 d >>= (λ n. Ok (type.Param n)) else
       if is_tag t (codes "_") 0 then Ok type.Hole else
-      named_type t
+      named_type t d
 
--- "t" or ["c", TYPE], of which the last is not read
+-- "t" or ["c", TYPE]
 unfoldable pub param_in : Data → Result RawParam (List ℕ)
 param_in d = do
   t ← there (tag d)
   if is_tag t (codes "t") 0 then Ok param.Type else
-      if is_tag t (codes "c") 2 then Ok param.Other else
+      if is_tag t (codes "c") 2 then part type_ref_in 1 d >>= (λ w. Ok (param.Const w)) else
       Err []
 
 -- ---- goals

@@ -4,7 +4,7 @@ use Rattle.std.specs.Str.{bytes_eq}
 use Rattle.serde_json.specs.Data.{Data}
 use Rattle.serde_json.specs.Find.{as_str}
 use Rattle.infer_text.specs.Reading.{◌>>=◌, there, u32_in}
-use Rattle.infer_text.specs.Words.{AdtId, ModuleId, VariantId, TraitId, TypeAliasId, ConstId, TypeRefId, FunctionId, BodyId, ExprId, PatId, BindingId, LabelId, StaticId, ImplId, Mutability, Other, Edition, RawAdtKind, RawCtor, BindingAnnotation, IntTy, UintTy, IntegerTy}
+use Rattle.infer_text.specs.Words.{AdtId, ModuleId, VariantId, TraitId, TypeAliasId, ConstId, TypeRefId, FunctionId, BodyId, ExprId, PatId, BindingId, LabelId, StaticId, ImplId, OpaqueId, Mutability, Other, Edition, RawAdtKind, RawCtor, BindingAnnotation, IntTy, UintTy, IntegerTy}
 use Rattle.infer_text.specs.Words.hir_raw.declared.raw.Edition.TheVariants as edition
 use Rattle.infer_text.specs.Words.hir_raw.declared.raw.RawAdtKind.TheVariants as kind
 use Rattle.infer_text.specs.Words.hir_raw.declared.raw.RawCtor.TheVariants as ctor
@@ -61,6 +61,9 @@ static_id_in d = u32_in d >>= λ n. Ok (record { 0 = n })
 
 abbrev pub impl_id_in : Data → Result ImplId (List ℕ)
 impl_id_in d = u32_in d >>= λ n. Ok (record { 0 = n })
+
+abbrev pub opaque_id_in : Data → Result OpaqueId (List ℕ)
+opaque_id_in d = u32_in d >>= λ n. Ok (record { 0 = n })
 
 -- ---- what is not read
 

@@ -1,10 +1,10 @@
 pub mod Reading
 pub mod Leaves
-pub mod Kinds
+pub mod WrittenArgs
+pub mod LaterTypes
 pub mod Entries
 pub mod Literals
 pub mod Operators
-pub mod WrittenArgs
 pub mod Paths
 pub mod Stmts
 pub mod LaterExprs

@@ -1,7 +1,6 @@
 -- What a value of JSON stands for, or the path of its first fault from here: keys and positions,
 -- joined by points, and nothing where the value itself is at fault.
 use Rattle.std.specs.Prelude.{◌≡◌, ◌&&◌, ℕ, suc, ◌+◌, ◌^◌, ◌==◌, List, [], ◌∷◌, ◌++◌, Bool, false, Option, Some, None, option_and_then, option_map, Result, Ok, Err, nat_lt, if◌then◌else◌, Vec}
-use Rattle.std.specs.List.{list_any}
 use Rattle.std.specs.declared.alloc.Global.{Global}
 use Rattle.std.specs.Fmt.{decimal}
 use Rattle.std.specs.Str.{bytes_eq}
@@ -100,10 +99,6 @@ tag d = tag_by (as_array d) d
 
 abbrev pub is_tag : List ℕ × ℕ → List ℕ → ℕ → Bool
 is_tag t word parts = bytes_eq t.0 word && (t.1 == parts)
-
--- the tag is one of these
-abbrev pub is_kind_of : List (List ℕ × ℕ) → List ℕ × ℕ → Bool
-is_kind_of kinds t = list_any (λ k. is_tag t k.0 k.1) kinds
 
 -- ---- values that any kind may hold
 

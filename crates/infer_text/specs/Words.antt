@@ -10,15 +10,18 @@ pub use Rattle.hir_types.specs.declared.ids.FunctionId.{FunctionId}
 pub use Rattle.hir_types.specs.declared.ids.ImplId.{ImplId}
 pub use Rattle.hir_types.specs.declared.ids.LabelId.{LabelId}
 pub use Rattle.hir_types.specs.declared.ids.ModuleId.{ModuleId}
+pub use Rattle.hir_types.specs.declared.ids.OpaqueId.{OpaqueId}
 pub use Rattle.hir_types.specs.declared.ids.PatId.{PatId}
 pub use Rattle.hir_types.specs.declared.ids.StaticId.{StaticId}
 pub use Rattle.hir_types.specs.declared.ids.TraitId.{TraitId}
 pub use Rattle.hir_types.specs.declared.ids.TypeAliasId.{TypeAliasId}
 pub use Rattle.hir_types.specs.declared.ids.TypeRefId.{TypeRefId}
 pub use Rattle.hir_types.specs.declared.ids.VariantId.{VariantId}
+pub use Rattle.hir_types.specs.declared.ty.FloatTy.{FloatTy}
 pub use Rattle.hir_types.specs.declared.ty.IntTy.{IntTy}
 pub use Rattle.hir_types.specs.declared.ty.IntegerTy.{IntegerTy}
 pub use Rattle.hir_types.specs.declared.ty.Mutability.{Mutability}
+pub use Rattle.hir_types.specs.declared.ty.Safety.{Safety}
 pub use Rattle.hir_types.specs.declared.ty.UintTy.{UintTy}
 pub use Rattle.hir_laws.specs.Words.{BindingAnnotation, Edition, Other, RawAdt, RawAdtKind, RawAlias, RawArgs, RawArm, RawAssocType, RawAt, RawBinding, RawBody, RawCtor, RawExpr, RawFacts, RawField, RawFn, RawGoal, RawImpl, RawLang, RawLimits, RawLiteral, RawParam, RawPat, RawPath, RawStmt, RawTrait, RawTraitRef, RawType, RawVariant, RawVis}
 pub use Rattle.hir_laws.specs.Words.{FirstBroken, IsLawful, tests, FactsList, Law}
@@ -36,3 +39,8 @@ pub use Rattle.hir_laws.specs.Words.hir_raw.declared.later.RawRecordField.{RawRe
 pub use Rattle.hir_laws.specs.Words.hir_raw.declared.later.RawRecordFieldPat.{RawRecordFieldPat}
 pub use Rattle.hir_laws.specs.Words.hir_raw.declared.later.RawVariantPath.{RawVariantPath}
 pub use Rattle.hir_laws.specs.Words.hir_raw.declared.later.UnaryOp.{UnaryOp}
+pub use Rattle.hir_laws.specs.Words.hir_raw.declared.later_types.ArgKind.{ArgKind}
+pub use Rattle.hir_laws.specs.Words.hir_raw.declared.later_types.Former.{Former}
+pub use Rattle.hir_laws.specs.Words.hir_raw.declared.later_types.LaterArgs.{LaterArgs}
+pub use Rattle.hir_laws.specs.Words.hir_raw.declared.later_types.LaterType.{LaterType}
+pub use Rattle.hir_laws.specs.Words.hir_raw.declared.later_types.RawPrincipal.{RawPrincipal}

@@ -1,12 +1,12 @@
 //! Reading traits, associated types, impls and language items.
 ghost use Rattle.std.specs.Prelude.{◌≡◌, List, Result, string_bytes};
 ghost use Rattle.serde_json.specs.View.{view, members_view};
-ghost use Rattle.infer_text.specs.Own.{IsAsRead, AreAsRead, under, trait_item_in, alias_in, impl_trait_in, assoc_type_in, impl_in, lang_item, lang_items, lang_in};
+ghost use Rattle.infer_text.specs.Own.{IsAsRead, AreAsRead, under, trait_item_in, alias_in, impl_trait_in, impl_in, lang_item, lang_items, lang_in};
 
 use super::entries::trait_ref_at;
 use super::fault::Misread;
 use super::reader::{FromData, expect_keys, expect_parts, field_of, misshapen, part_of, stepped};
-use hir_facts::{List, RawAlias, RawAssocType, RawImpl, RawLang, RawTrait, RawTraitRef, TraitId};
+use hir_facts::{List, RawAlias, RawImpl, RawLang, RawTrait, RawTraitRef, TraitId};
 use serde_json::{Map, Value};
 use std::alloc::Global;
 
@@ -59,18 +59,6 @@ impl FromData for RawTraitRef {
     fn from_data(alloc: Global, value: &Value) -> Result<RawTraitRef, Misread> {
         expect_parts(alloc, value, 2)?;
         trait_ref_at(alloc, value, 0)
-    }
-}
-
-#[tactic(auto, unfolding(crate::specs::Abstract::assoc_type_in))]
-impl FromData for RawAssocType {
-    ghost reads = { assoc_type_in };
-
-    fn from_data(alloc: Global, value: &Value) -> Result<RawAssocType, Misread> {
-        expect_parts(alloc, value, 2)?;
-        let alias = part_of(alloc, value, 0)?;
-        let ty = part_of(alloc, value, 1)?;
-        Ok(RawAssocType { alias, ty })
     }
 }
 

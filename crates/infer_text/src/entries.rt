@@ -1,20 +1,20 @@
 //! Reading types, functions, adts, variants and limits.
-ghost use Rattle.std.specs.Prelude.{◌≡◌, ◌<◌, List, Result, Some, None, Ok, Err, IfOk, map};
-ghost use Rattle.std.specs.List.{list_all};
+ghost use Rattle.std.specs.Prelude.{◌≡◌, ◌<◌, List, Result, Some, None, Ok, Err};
 ghost use Rattle.serde_json.specs.View.{view};
-ghost use Rattle.infer_text.specs.Own.{IsAsRead, is_kind_of, other_types, integer_tag, named_type, arg_in, is_type, arg_type, args_in, adt_type_in, projection_type_in, trait_ref_at, projection_in, goal_in, type_in, param_in, adt_in, field_in, variant_in, at_in, vis_in, fn_in, limits_in};
+ghost use Rattle.infer_text.specs.Own.{IsAsRead, integer_tag, named_type, adt_type_in, projection_type_in, trait_ref_at, projection_in, goal_in, type_in, param_in, adt_in, field_in, variant_in, at_in, vis_in, fn_in, limits_in};
 
 use super::fault::Misread;
+use super::later_types::{adt_at, later_type, projection_at};
 use super::leaves::integer_of;
 use super::reader::{
-    FromData, expect_keys, expect_parts, field_of, is, is_one_of, misshapen, part_of, tag_of,
+    FromData, expect_keys, expect_parts, field_of, is, misshapen, part_of, tag_of,
 };
 use hir_facts::{
-    IntegerTy, List, ModuleId, RawAdt, RawArgs, RawAt, RawField, RawFn, RawGoal, RawLimits,
-    RawParam, RawTraitRef, RawType, RawVariant, RawVis, TypeRefId,
+    IntegerTy, ModuleId, RawAdt, RawArgs, RawAt, RawField, RawFn, RawGoal, RawLimits, RawParam,
+    RawTraitRef, RawType, RawVariant, RawVis,
 };
 use serde_json::Value;
-use std::alloc::{AllocError, Global};
+use std::alloc::Global;
 
 fn integer_alone(tag: (&str, usize)) -> Option<IntegerTy>
     ensures { result ≡ integer_tag (tag.entry.0.now, tag.entry.1) }
@@ -22,110 +22,13 @@ fn integer_alone(tag: (&str, usize)) -> Option<IntegerTy>
     if tag.1 == 0 { integer_of(tag.0) } else { None }
 }
 
-fn is_other_type(tag: (&str, usize)) -> bool
-    ensures { result ≡ is_kind_of other_types (tag.entry.0.now, tag.entry.1) }
-{
-    is_one_of(
-        tag,
-        &[
-            ("str", 0),
-            ("never", 0),
-            ("error", 0),
-            ("f16", 0),
-            ("f32", 0),
-            ("f64", 0),
-            ("f128", 0),
-            ("array", 3),
-            ("slice", 2),
-            ("ref", 4),
-            ("ptr", 3),
-            ("fnptr", 4),
-            ("dyn", 4),
-            ("opaque", 3),
-        ],
-    )
-}
-
 #[tactic(auto, unfolding(crate::specs::Entries::named_type))]
-fn other_type(alloc: Global, tag: (&str, usize)) -> Result<RawType, Misread>
-    ensures { IsAsRead result (named_type (tag.entry.0.now, tag.entry.1)) }
+fn named_type(alloc: Global, tag: (&str, usize), value: &Value) -> Result<RawType, Misread>
+    ensures { IsAsRead result (named_type (tag.entry.0.now, tag.entry.1) (view value.now)) }
 {
     match integer_alone(tag) {
         Some(integer) => Ok(RawType::Integer(integer)),
-        None => {
-            if is_other_type(tag) {
-                Ok(RawType::Other)
-            } else {
-                Err(misshapen(alloc))
-            }
-        }
-    }
-}
-
-/// A written argument.
-#[derive(Clone, Copy, Debug)]
-enum Arg {
-    Type(TypeRefId),
-    Const,
-}
-
-#[tactic(auto, unfolding(crate::specs::Entries::arg_in))]
-impl FromData for Arg {
-    ghost reads = { arg_in };
-
-    fn from_data(alloc: Global, value: &Value) -> Result<Arg, Misread> {
-        let tag = tag_of(alloc, value)?;
-        if is(tag, "t", 2) {
-            Ok(Arg::Type(part_of(alloc, value, 1)?))
-        } else if is(tag, "c", 2) {
-            Ok(Arg::Const)
-        } else {
-            Err(misshapen(alloc))
-        }
-    }
-}
-
-fn is_type(arg: &Arg) -> bool
-    ensures { result ≡ is_type arg.now }
-{
-    match arg {
-        Arg::Type(_) => true,
-        Arg::Const => false,
-    }
-}
-
-fn arg_type(arg: &Arg) -> TypeRefId
-    ensures { result ≡ arg_type arg.now }
-{
-    match arg {
-        Arg::Type(ty) => *ty,
-        Arg::Const => TypeRefId(0),
-    }
-}
-
-fn are_types(args: &[Arg]) -> bool
-    ensures { result ≡ list_all is_type args.now }
-{
-    args.iter().all(|arg| is_type(arg))
-}
-
-fn types_of(alloc: Global, args: &[Arg]) -> Result<Vec<TypeRefId>, AllocError>
-    ensures { IfOk result (λ v. v.items ≡ map arg_type args.now) }
-{
-    args.iter().map(|arg| arg_type(arg)).collect(alloc)
-}
-
-#[tactic(auto, unfolding(crate::specs::Entries::args_in))]
-impl FromData for RawArgs {
-    ghost reads = { args_in };
-
-    fn from_data(alloc: Global, value: &Value) -> Result<RawArgs, Misread> {
-        let args: List<Arg> = List::from_data(alloc, value)?;
-        if are_types(args.as_slice()) {
-            Ok(RawArgs::Types(List::from_vec(types_of(alloc, args.as_slice())?)))
-        } else {
-            Ok(RawArgs::Other)
-        }
+        None => Ok(RawType::Later(later_type(alloc, tag, value)?)),
     }
 }
 
@@ -136,7 +39,7 @@ fn adt_type(alloc: Global, value: &Value) -> Result<RawType, Misread>
     let adt = part_of(alloc, value, 1)?;
     match part_of(alloc, value, 2)? {
         RawArgs::Types(args) => Ok(RawType::Adt { adt, args }),
-        RawArgs::Other => Ok(RawType::Other),
+        RawArgs::Later(args) => Ok(RawType::Later(adt_at(adt, args))),
     }
 }
 
@@ -147,7 +50,7 @@ fn projection_type(alloc: Global, value: &Value) -> Result<RawType, Misread>
     let alias = part_of(alloc, value, 1)?;
     match part_of(alloc, value, 2)? {
         RawArgs::Types(args) => Ok(RawType::Projection { alias, args }),
-        RawArgs::Other => Ok(RawType::Other),
+        RawArgs::Later(args) => Ok(RawType::Later(projection_at(alias, args))),
     }
 }
 
@@ -172,7 +75,7 @@ impl FromData for RawType {
         } else if is(tag, "_", 0) {
             Ok(RawType::Hole)
         } else {
-            other_type(alloc, tag)
+            named_type(alloc, tag, value)
         }
     }
 }
@@ -308,7 +211,7 @@ impl FromData for RawParam {
         if is(tag, "t", 0) {
             Ok(RawParam::Type)
         } else if is(tag, "c", 2) {
-            Ok(RawParam::Other)
+            Ok(RawParam::Const(part_of(alloc, value, 1)?))
         } else {
             Err(misshapen(alloc))
         }

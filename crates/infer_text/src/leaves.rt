@@ -1,12 +1,12 @@
 //! Reading the parts that have no parts of their own.
 ghost use Rattle.std.specs.Prelude.{◌≡◌, Result, Some, None, Ok, Err};
-ghost use Rattle.infer_text.specs.Own.{bool_in, text_in, u32_in, module_in, trait_in, alias_id_in, const_id_in, adt_id_in, variant_id_in, type_ref_in, function_id_in, body_id_in, expr_id_in, pat_id_in, binding_id_in, label_in, static_id_in, impl_id_in, other_in, int_name, uint_name, integer_name, integer_in, profile_in, edition_in, adt_kind_in, ctor_in, annotation_in, mutability_in};
+ghost use Rattle.infer_text.specs.Own.{bool_in, text_in, u32_in, module_in, trait_in, alias_id_in, const_id_in, adt_id_in, variant_id_in, type_ref_in, function_id_in, body_id_in, expr_id_in, pat_id_in, binding_id_in, label_in, static_id_in, impl_id_in, opaque_id_in, other_in, int_name, uint_name, integer_name, integer_in, profile_in, edition_in, adt_kind_in, ctor_in, annotation_in, mutability_in};
 
 use super::fault::Misread;
 use super::reader::{FromData, misshapen};
 use hir_facts::{
     AdtId, BindingAnnotation, BindingId, BodyId, ConstId, Edition, ExprId, FunctionId, ImplId,
-    IntTy, IntegerTy, LabelId, ModuleId, Mutability, Other, PatId, RawAdtKind, RawCtor, StaticId,
+    IntTy, IntegerTy, LabelId, ModuleId, Mutability, OpaqueId, Other, PatId, RawAdtKind, RawCtor, StaticId,
     Text, TraitId, TypeAliasId, TypeRefId, UintTy, VariantId,
 };
 use serde_json::Value;
@@ -162,6 +162,14 @@ impl FromData for ImplId {
 
     fn from_data(alloc: Global, value: &Value) -> Result<ImplId, Misread> {
         Ok(ImplId(u32::from_data(alloc, value)?))
+    }
+}
+
+impl FromData for OpaqueId {
+    ghost reads = { opaque_id_in };
+
+    fn from_data(alloc: Global, value: &Value) -> Result<OpaqueId, Misread> {
+        Ok(OpaqueId(u32::from_data(alloc, value)?))
     }
 }
 

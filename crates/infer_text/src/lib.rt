@@ -7,6 +7,7 @@ mod entries;
 mod exprs;
 mod fault;
 mod later_exprs;
+mod later_types;
 mod leaves;
 mod literals;
 mod operators;

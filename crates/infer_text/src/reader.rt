@@ -1,7 +1,6 @@
 //! Reading a part of a value of JSON.
 ghost use Rattle.std.specs.Prelude.{◌≡◌, List, [], ℕ, Result, Err, Ok, Some, None, option_map, IfOk, IfErr, string_bytes};
 ghost use Rattle.std.specs.Fmt.{decimal};
-ghost use Rattle.std.specs.List.{list_any};
 ghost use Rattle.serde_json.specs.Data.{Data};
 ghost use Rattle.serde_json.specs.View.{view, items_view};
 ghost use Rattle.infer_text.specs.Reading.{IsAsRead, AreAsRead, Fails, under, joined_path, field, part, read_each, keys_in, parts_in, tag, is_tag, there, option_in, list_in};
@@ -134,13 +133,6 @@ pub fn is(tag: (&str, usize), word: &str, parts: usize) -> bool
     ensures { result ≡ is_tag (tag.entry.0.now, tag.entry.1) word.now parts }
 {
     tag.0 == word && tag.1 == parts
-}
-
-/// Whether a tag is one of these.
-pub fn is_one_of(tag: (&str, usize), kinds: &[(&str, usize)]) -> bool
-    ensures { result ≡ list_any (λ k. is_tag (tag.entry.0.now, tag.entry.1) k.0.now k.1) kinds.now }
-{
-    kinds.iter().any(|kind| is(tag, kind.0, kind.1))
 }
 
 impl<T: FromData> FromData for Option<T> {

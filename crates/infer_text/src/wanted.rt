@@ -26,7 +26,7 @@ const VIS: &str = "\"pub\" or a module's number";
 
 const MAYBE_BODY: &str = "a body's number, or null";
 
-static PLACES: [Wanted; 79] = [
+static PLACES: [Wanted; 76] = [
     Wanted {
         path: b"",
         what: "an object with exactly the 18 keys of docs/FORMAT.md, or for `session` with `facts` and `commands`,",
@@ -88,26 +88,6 @@ static PLACES: [Wanted; 79] = [
         what: "a type, which is its name or an array of its word and exactly its parts,",
     },
     Wanted {
-        path: b"types.#.1",
-        what: "a list of indexes into `types`, or the number of an adt, an associated type or a parameter, as the type's kind asks,",
-    },
-    Wanted {
-        path: b"types.#.1.#",
-        what: INDEX_OF_TYPE,
-    },
-    Wanted {
-        path: b"types.#.2",
-        what: "a list of arguments",
-    },
-    Wanted {
-        path: b"types.#.2.#",
-        what: "[\"t\", TYPE] or [\"c\", CONST]",
-    },
-    Wanted {
-        path: b"types.#.2.#.1",
-        what: INDEX_OF_TYPE,
-    },
-    Wanted {
         path: b"modules",
         what: ANY_LIST,
     },
@@ -138,6 +118,10 @@ static PLACES: [Wanted; 79] = [
     Wanted {
         path: b"adts.#.params.#",
         what: PARAM,
+    },
+    Wanted {
+        path: b"adts.#.params.#.1",
+        what: INDEX_OF_TYPE,
     },
     Wanted {
         path: b"adts.#.preds",
@@ -254,6 +238,10 @@ static PLACES: [Wanted; 79] = [
     Wanted {
         path: b"fns.#.params.#",
         what: PARAM,
+    },
+    Wanted {
+        path: b"fns.#.params.#.1",
+        what: INDEX_OF_TYPE,
     },
     Wanted {
         path: b"fns.#.preds",
@@ -385,9 +373,11 @@ pub fn fits(pattern: &[u8], path: &[u8]) -> bool {
     }
 }
 
-/// What is wanted below an expression or a pattern, whose kind says it.
+/// What is wanted below a type, an expression or a pattern, whose kind says it.
 fn wanted_of_nodes(path: &[u8]) -> Option<&'static str> {
-    if behind(b"bodies.#.exprs.#.", path).is_some() {
+    if behind(b"types.#.", path).is_some() {
+        Some("what the type's kind has there")
+    } else if behind(b"bodies.#.exprs.#.", path).is_some() {
         Some("what the expression's kind has there")
     } else if behind(b"bodies.#.pats.#.", path).is_some() {
         Some("what the pattern's kind has there")

@@ -7,7 +7,7 @@ const GOAL: &str =
 
 const TRAIT: &str = "a trait's number";
 
-static PLACES: [Wanted; 25] = [
+static PLACES: [Wanted; 27] = [
     Wanted {
         path: b"adts.#.preds.#",
         what: GOAL,
@@ -31,6 +31,10 @@ static PLACES: [Wanted; 25] = [
     Wanted {
         path: b"traits.#.params.#",
         what: PARAM,
+    },
+    Wanted {
+        path: b"traits.#.params.#.1",
+        what: INDEX_OF_TYPE,
     },
     Wanted {
         path: b"traits.#.preds",
@@ -75,6 +79,10 @@ static PLACES: [Wanted; 25] = [
     Wanted {
         path: b"impls.#.params.#",
         what: PARAM,
+    },
+    Wanted {
+        path: b"impls.#.params.#.1",
+        what: INDEX_OF_TYPE,
     },
     Wanted {
         path: b"impls.#.preds",

@@ -4,7 +4,7 @@ use hir_facts::FactsList;
 use serde_json::Value;
 use std::alloc::{AllocError, Global};
 use std::fmt;
-use told_places::look::{items, list, number, type_id, type_parts};
+use told_places::look::{items, list, number, type_at, type_id, type_places};
 use told_places::mentions::Mention;
 use told_places::nodes::Nodes;
 use told_places::place::Place;
@@ -125,8 +125,8 @@ fn abstract_of(facts: &Value, ty: usize) -> Option<Place> {
 fn times_in_types(facts: &Value, ty: usize) -> usize {
     let mut times = 0usize;
     for user in list(facts, "types") {
-        for part in type_parts(user) {
-            if is(type_id(part), ty) {
+        for at in 0..type_places(user) {
+            if is(type_at(user, at), ty) {
                 times = times.saturating_add(1);
             }
         }

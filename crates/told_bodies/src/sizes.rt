@@ -4,7 +4,7 @@ use hir_facts::FactsList;
 use serde_json::Value;
 use std::alloc::{AllocError, Global};
 use std::fmt;
-use told_places::look::{list, number, type_id, type_parts};
+use told_places::look::{items, list, number, type_at, type_places, word};
 use told_places::mentions::Mention;
 use told_places::nodes::{Node, Nodes, Step};
 use told_places::place::Place;
@@ -76,21 +76,45 @@ fn of_keys(place: Place, entry: &Value, keys: &[&'static str]) -> Option<(Place,
     None
 }
 
-/// How many levels a type has, and with how many types it is written out.
+/// How many levels a type has, and with how many types and consts it is written out.
 #[derive(Clone, Copy)]
 struct Size {
     levels: usize,
     types: usize,
 }
 
+/// How many of these arguments are consts.
+fn consts_among(arguments: &[Value]) -> usize {
+    let mut count = 0usize;
+    for argument in arguments {
+        if word(Some(argument)) == "c" {
+            count = count.saturating_add(1);
+        }
+    }
+    count
+}
+
+/// How many consts a written type has.
+fn consts_of(ty: &Value) -> usize {
+    match word(Some(ty)) {
+        "array" => 1,
+        "adt" | "proj" | "opaque" => consts_among(items(ty.get(2usize))),
+        "dyn" => {
+            let principal = ty.get(1usize);
+            consts_among(items(principal.and_then(|principal| principal.get(1usize))))
+        }
+        _ => 0,
+    }
+}
+
 /// The size of a type, of whose parts it is known.
 fn size_over(sizes: &[Size], ty: &Value) -> Size {
     let mut size = Size {
         levels: 0,
-        types: 1,
+        types: consts_of(ty).saturating_add(1),
     };
-    for part in type_parts(ty) {
-        if let Some(at) = number(type_id(part))
+    for place in 0..type_places(ty) {
+        if let Some(at) = number(type_at(ty, place))
             && let Some(inner) = sizes.get(at)
         {
             size.levels = size.levels.max(inner.levels);
@@ -107,7 +131,7 @@ fn of_type(
     place: Place,
     ty: &Value,
 ) -> Result<Option<(Place, TooMuch)>, AllocError> {
-    if let Some(found) = of_length(place, type_parts(ty).len()) {
+    if let Some(found) = of_length(place, type_places(ty)) {
         return Ok(Some(found));
     }
     let mut sizes = Vec::new(alloc);

@@ -4,7 +4,7 @@ use hir_facts::FactsList;
 use serde_json::Value;
 use std::alloc::{AllocError, Global};
 use std::fmt;
-use told_places::look::{is_there, items, list, number, type_id, type_parts, word};
+use told_places::look::{is_there, items, list, number, type_at, type_places, word};
 use told_places::place::Place;
 
 /// What is not carried yet.
@@ -46,10 +46,15 @@ fn has_projection(marks: &[bool], ty: Option<&Value>) -> bool {
 }
 
 fn holds(marks: &[bool], ty: &Value) -> bool {
-    word(Some(ty)) == "proj"
-        || type_parts(ty)
-            .iter()
-            .any(|part| has_projection(marks, type_id(part)))
+    if word(Some(ty)) == "proj" {
+        return true;
+    }
+    for at in 0..type_places(ty) {
+        if has_projection(marks, type_at(ty, at)) {
+            return true;
+        }
+    }
+    false
 }
 
 /// Of each written type whether a projection stands in it: a type's parts come before it.

@@ -4,7 +4,7 @@ use hir_facts::FactsList;
 use serde_json::Value;
 use std::alloc::{AllocError, Global};
 use std::fmt;
-use told_places::look::{items, list, number, type_id, type_parts, word};
+use told_places::look::{items, list, number, type_at, type_places, word};
 use told_places::mentions::Mention;
 use told_places::nodes::Nodes;
 use told_places::place::{Counted, Place};
@@ -115,8 +115,8 @@ fn at_part(wrongs: &[Option<WrongCount>], part: Option<&Value>) -> Option<WrongC
 
 /// What is wrong with the first wrong part of a written type.
 fn inside(wrongs: &[Option<WrongCount>], ty: &Value) -> Option<WrongCount> {
-    for part in type_parts(ty) {
-        if let Some(wrong) = at_part(wrongs, type_id(part)) {
+    for at in 0..type_places(ty) {
+        if let Some(wrong) = at_part(wrongs, type_at(ty, at)) {
             return Some(wrong);
         }
     }

@@ -5,7 +5,7 @@ use hir_facts::FactsList;
 use serde_json::Value;
 use std::alloc::{AllocError, Global};
 use std::fmt;
-use told_places::look::{list, number, type_id, type_parts, word};
+use told_places::look::{items, list, number, type_at, type_places, word};
 use told_places::mentions::Mention;
 use told_places::nodes::{Node, Nodes};
 use told_places::place::Place;
@@ -20,6 +20,7 @@ pub enum Named {
     Fn,
     Trait,
     Alias,
+    Opaque,
     Body,
     Const,
     Static,
@@ -39,6 +40,7 @@ impl fmt::Display for Named {
             Named::Fn => "fn",
             Named::Trait => "trait",
             Named::Alias => "associated type",
+            Named::Opaque => "opaque type",
             Named::Body => "body",
             Named::Const => "const",
             Named::Static => "static",
@@ -57,7 +59,7 @@ impl Named {
             Named::Expr | Named::Pat | Named::Binding | Named::Label => "the body has",
             Named::Type | Named::Module | Named::Adt | Named::Variant => "the facts have",
             Named::Fn | Named::Trait | Named::Alias | Named::Body => "the facts have",
-            Named::Const | Named::Static => "the facts have",
+            Named::Const | Named::Static | Named::Opaque => "the facts have",
         }
     }
 }
@@ -176,16 +178,39 @@ fn late(named: Named, value: Option<&Value>, at: usize, count: usize) -> Option<
     }
 }
 
+/// What is wrong with the traits and associated types that a `dyn` names.
+fn of_object(facts: &Value, ty: &Value) -> Option<WrongId> {
+    let traits = list(facts, "traits").len();
+    let principal = ty.get(1usize).and_then(|principal| principal.get(0usize));
+    if let Some(wrong) = beyond(Named::Trait, principal, traits) {
+        return Some(wrong);
+    }
+    for given in items(ty.get(2usize)) {
+        let aliases = list(facts, "aliases").len();
+        if let Some(wrong) = beyond(Named::Alias, given.get(0usize), aliases) {
+            return Some(wrong);
+        }
+    }
+    for auto_trait in items(ty.get(3usize)) {
+        if let Some(wrong) = beyond(Named::Trait, Some(auto_trait), traits) {
+            return Some(wrong);
+        }
+    }
+    None
+}
+
 fn of_type(facts: &Value, at: usize, ty: &Value) -> Option<WrongId> {
     let count = list(facts, "types").len();
-    for part in type_parts(ty) {
-        if let Some(wrong) = late(Named::Type, type_id(part), at, count) {
+    for place in 0..type_places(ty) {
+        if let Some(wrong) = late(Named::Type, type_at(ty, place), at, count) {
             return Some(wrong);
         }
     }
     match word(Some(ty)) {
         "adt" => beyond(Named::Adt, ty.get(1usize), list(facts, "adts").len()),
         "proj" => beyond(Named::Alias, ty.get(1usize), list(facts, "aliases").len()),
+        "opaque" => beyond(Named::Opaque, ty.get(1usize), list(facts, "opaques").len()),
+        "dyn" => of_object(facts, ty),
         _ => None,
     }
 }

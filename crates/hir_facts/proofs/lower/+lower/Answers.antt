@@ -55,5 +55,5 @@ returns-in-Param t c = lowered_here c.args.params c.args.aliases.now c.args.type
 pub returns-in-Hole : goal.returns-in-Hole
 returns-in-Hole t c = lowered_here c.args.params c.args.aliases.now c.args.types.now c.args.t c.index-types-t.result _ _ c.requires.before c.requires.within c.index-types-t.is c.in-Hole.is refl
 
-pub returns-in-Other : goal.returns-in-Other
-returns-in-Other t c = lowered_here c.args.params c.args.aliases.now c.args.types.now c.args.t c.index-types-t.result _ _ c.requires.before c.requires.within c.index-types-t.is c.in-Other.is refl
+pub returns-in-Later : goal.returns-in-Later
+returns-in-Later t c = lowered_here c.args.params c.args.aliases.now c.args.types.now c.args.t c.index-types-t.result _ _ c.requires.before c.requires.within c.index-types-t.is c.in-Later.is refl

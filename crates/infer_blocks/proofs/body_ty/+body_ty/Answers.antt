@@ -1,7 +1,8 @@
-use Rattle.std.proofs.Common.{◌∙◌, ap, arith, refl, Some}
+use Rattle.std.proofs.Common.{◌∙◌, ap, arith, refl, sym, Some, true≢false}
 use Rattle.std.proofs.lemmas.Option.{slice_get-get_or}
 use Rattle.hir_types.specs.declared.ty.GenericArg.TheVariants as arg
 use Rattle.hir_types.specs.declared.ty.Ty.TheVariants as ty
+use Rattle.hir_facts.specs.Own.{types_carried}
 use Rattle.hir_raw.specs.declared.raw.RawType.{RawType}
 use Rattle.hir_raw.specs.WrittenTypes.{is_itself}
 use Rattle.hir_raw.specs.declared.raw.RawType.TheVariants as type
@@ -76,10 +77,9 @@ lower_part-returns-in-Param t c =
     let g = given_of c.args.given.now in
     leaf_done g (let_before g c.lawful.ensures) _ (type.Param c.in-Param.number) (read_itself g c.args.type_ref (type.Param c.in-Param.number) (c.written.ensures ∙ ap (λ (x : RawType). Some x) c.in-Param.is) refl) (ty.Param c.in-Param.number) _ c.requires.sound (λ e. absurd (cc)) refl refl
 
-pub lower_part-returns-in-Other : goal.lower_part-returns-in-Other
-lower_part-returns-in-Other t c =
-    let g = given_of c.args.given.now in
-    leaf_done g (let_before g c.lawful.ensures) _ type.Other (read_itself g c.args.type_ref type.Other (c.written.ensures ∙ ap (λ (x : RawType). Some x) c.in-Other.is) refl) ty.Error _ c.requires.sound (λ e. absurd (cc)) refl refl
+pub lower_part-returns-in-Later : goal.lower_part-returns-in-Later
+lower_part-returns-in-Later t c = absurd (true≢false (sym
+    (types_carried _ c.lawful.ensures c.args.type_ref.0 (type.Later c.in-Later.field-0) (c.written.ensures ∙ ap (λ (x : RawType). Some x) c.in-Later.is))))
 
 pub lower_part-returns-in_ok-tys-in-Tuple : goal.lower_part-returns-in_ok-tys-in-Tuple
 lower_part-returns-in_ok-tys-in-Tuple t c =

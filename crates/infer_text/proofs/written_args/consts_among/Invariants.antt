@@ -1,0 +1,7 @@
+use Rattle.std.proofs.Common.{◌≡◌, take}
+use Rattle.std.specs.List.{flat_map}
+use Rattle.infer_text.specs.Own.{const_of}
+use Rattle.infer_text.proofs.written_args.consts_among.Given as goal
+
+abbrev pub invariant-loop-arg : goal.invariant-loop-arg
+invariant-loop-arg l = l.out.items ≡ flat_map const_of (take l.arg-index l.args)
