@@ -1,5 +1,6 @@
 -- What this crate takes from those below it.
 pub use Rattle.hir_counts.specs.Words.hir_raw
+pub use Rattle.hir_counts.specs.Words.hir_facts
 pub use Rattle.hir_counts.specs.Words.hir_ids
 pub use Rattle.hir_types.specs.declared.ids.BindingId.{BindingId}
 pub use Rattle.hir_types.specs.declared.ids.ExprId.{ExprId}

@@ -22,6 +22,7 @@ unfoldable pub use Rattle.infer_text.specs.Reading.{bool_in, text_in, u32_in}
 pub use Rattle.infer_text.specs.Session.{Session, definition, facts_of, raw_session}
 unfoldable pub use Rattle.infer_text.specs.Session.{command_in, definition_in, kind_in, session_in}
 unfoldable pub use Rattle.infer_text.specs.Stmts.{expr_stmt_in, let_in, stmt_in}
+unfoldable pub use Rattle.infer_text.specs.Values.{const_item_in, static_in}
 pub use Rattle.infer_text.specs.WrittenArgs.{written_args_in}
 unfoldable pub use Rattle.infer_text.specs.WrittenArgs.{const_in, named_const_in, written_arg_in}
 pub use Rattle.infer_text.specs.declared.fault.Misread.{Misread}

@@ -36,3 +36,5 @@ pub use Rattle.hir_laws.specs.Words.hir_raw.declared.later.RawRecordField.{RawRe
 pub use Rattle.hir_laws.specs.Words.hir_raw.declared.later.RawRecordFieldPat.{RawRecordFieldPat}
 pub use Rattle.hir_laws.specs.Words.hir_raw.declared.later.RawVariantPath.{RawVariantPath}
 pub use Rattle.hir_laws.specs.Words.hir_raw.declared.later.UnaryOp.{UnaryOp}
+pub use Rattle.hir_laws.specs.Words.hir_raw.declared.raw.RawConstItem.{RawConstItem}
+pub use Rattle.hir_laws.specs.Words.hir_raw.declared.raw.RawStatic.{RawStatic}
