@@ -24,7 +24,7 @@ pub const PARAM: &str = "\"t\" or [\"c\", TYPE]";
 
 const VIS: &str = "\"pub\" or a module's number";
 
-const MAYBE_BODY: &str = "a body's number, or null";
+pub const MAYBE_BODY: &str = "a body's number, or null";
 
 static PLACES: [Wanted; 79] = [
     Wanted {
