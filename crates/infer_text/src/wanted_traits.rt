@@ -1,14 +1,16 @@
 //! What a facts text has to have at a path of a goal, a constant, a static, a trait, an associated type, an impl or a
 //! language item.
 
-use crate::wanted::{ANY_LIST, INDEX_OF_TYPE, MAYBE_BODY, PARAM, TEXT, TRUTH, Wanted, fits};
+use crate::wanted::{
+    ANY_LIST, AT, INDEX_OF_TYPE, MAYBE_BODY, NUMBER, PARAM, TEXT, TRUTH, VIS, Wanted, fits,
+};
 
 const GOAL: &str =
     "[\"trait\", trait, [ARGUMENT]] or [\"proj\", associated type, [ARGUMENT], TYPE]";
 
 const TRAIT: &str = "a trait's number";
 
-static PLACES: [Wanted; 32] = [
+static PLACES: [Wanted; 35] = [
     Wanted {
         path: b"consts.#",
         what: "an object with exactly the five keys of a constant",
@@ -16,6 +18,18 @@ static PLACES: [Wanted; 32] = [
     Wanted {
         path: b"consts.#.name",
         what: TEXT,
+    },
+    Wanted {
+        path: b"consts.#.at",
+        what: AT,
+    },
+    Wanted {
+        path: b"consts.#.at.#",
+        what: NUMBER,
+    },
+    Wanted {
+        path: b"consts.#.vis",
+        what: VIS,
     },
     Wanted {
         path: b"consts.#.type",
