@@ -1,7 +1,7 @@
 -- What laws say of lawful facts, list by list.
 use Rattle.std.specs.Prelude.{IsTrue, Bool, true, ◌&&◌, ◌≡◌, ◌+◌, ℕ, length, slice_get, Some, refl}
 use Rattle.std.specs.List.{list_all}
-use Rattle.std.proofs.Common.{subst, sym}
+use Rattle.std.proofs.Common.{subst, arith}
 use Rattle.std.specs.Cmp.{first_so}
 use Rattle.hir_facts.specs.Words.{RawFacts, RawFn, RawAt}
 use Rattle.hir_raw.specs.declared.raw.RawAt.TheVariants as stands
@@ -114,8 +114,9 @@ none_there raw (stands.Trait t) is = absurd (cc)
 pub fns_fit : (raw : RawFacts) → IsLawful raw
     → AllHold (λ i f. FnFitsUnder (params_in raw) (wrongs_in raw) raw (length f.params) f) raw.fns
 fns_fit raw law i f found =
-    subst (λ (n : ℕ). FnFitsUnder (params_in raw) (wrongs_in raw) raw (n + length f.params) f)
-    (none_there raw f.«at» (first_so (is_in_module f.«at») _ (fns_carried raw law i f found))) (fns_fit_there raw law i f found)
+    let none : params_there raw f.«at» ≡ 0 = none_there raw f.«at» (first_so (is_in_module f.«at») _ (fns_carried raw law i f found)) in
+    let own : params_there raw f.«at» + length f.params ≡ length f.params = omega (arith, none) in
+    subst (λ (n : ℕ). FnFitsUnder (params_in raw) (wrongs_in raw) raw n f) own (fns_fit_there raw law i f found)
 
 pub counts_fit : (raw : RawFacts) → IsLawful raw → AllHold (λ i f. CountsFit raw f) raw.fns
 counts_fit raw law i f found = (fns_fit_there raw law i f found).counts
