@@ -44,7 +44,8 @@ pub fn once_marks(alloc: Global, raw: &RawFacts) -> Result<Vec<bool>, AllocError
 {
     let mut last = vec![in alloc; 0usize; raw.aliases.len()]?;
     let mut marks = Vec::new(alloc);
-    for (at, item) in raw.impls.as_slice().iter().enumerate() {
+    let impls = raw.impls.as_slice();
+    for (at, item) in impls.iter().enumerate() {
         let mark = are_given_once(&mut last, at, item.types.as_slice());
         marks.push(mark)?;
     }
