@@ -114,7 +114,8 @@ none_there raw (stands.Trait t) is = absurd (cc)
 pub fns_fit : (raw : RawFacts) → IsLawful raw
     → AllHold (λ i f. FnFitsUnder (params_in raw) (wrongs_in raw) raw (length f.params) f) raw.fns
 fns_fit raw law i f found =
-    let none : params_there raw f.«at» ≡ 0 = none_there raw f.«at» (first_so (is_in_module f.«at») _ (fns_carried raw law i f found)) in
+    let none : params_there raw f.«at» ≡ 0 =
+    none_there raw f.«at» (first_so (is_in_module f.«at») _ (fns_carried raw law i f found)) in
     let own : params_there raw f.«at» + length f.params ≡ length f.params = omega (arith, none) in
     subst (λ (n : ℕ). FnFitsUnder (params_in raw) (wrongs_in raw) raw n f) own (fns_fit_there raw law i f found)
 

@@ -74,4 +74,5 @@ IsListed listed i (stands.Trait t) = NamedOnce listed i
 
 -- each associated type once
 abbrev pub GiveOnce : List RawAssocType → Type 0
-GiveOnce gs = (j k : ℕ) (g h : RawAssocType) → slice_get gs j ≡ Some g → slice_get gs k ≡ Some h → g.alias.0 ≡ h.alias.0 → j ≡ k
+GiveOnce gs = (j k : ℕ) (g h : RawAssocType) → slice_get gs j ≡ Some g → slice_get gs k ≡ Some h
+    → g.alias.0 ≡ h.alias.0 → j ≡ k

@@ -5,7 +5,8 @@ use Rattle.hir_ids.specs.Words.hir_facts.Ids.{ExistsIn}
 use Rattle.hir_ids.specs.declared.namers.Namers.{Namers}
 use Rattle.hir_ids.specs.Namers.{AreNamers}
 
--- the parts of each expression, of each pattern and of the body are nodes, and what is said of it exists, where it stands in this impl or none
+-- the parts of each expression, of each pattern and of the body are nodes, and what is said of it exists, where it stands in this impl or
+-- in none
 pub record BodyIdsHere (raw : RawFacts) (home : Option ℕ) (b : RawBody) : Type 0 where
   pub module_ : b.module.0 < length raw.modules
   pub traits : (k : ℕ) (t : TraitId) → slice_get b.traits k ≡ Some t → t.0 < length raw.traits

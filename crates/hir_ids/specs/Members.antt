@@ -57,7 +57,9 @@ AreBefore i last = (a : ℕ) → last_of last a < i + 1
 pub record AreNoted (count : ℕ) (gs : List RawAssocType) (i k : ℕ) (last : List ℕ) : Type 0 where
   pub size : length last ≡ count
   pub low : AreBefore (i + 1) last
-  pub here : (a : ℕ) → last_of last a ≡ i + 1 → (j : ℕ) × (g : RawAssocType) × (j < k) × (slice_get gs j ≡ Some g) × (g.alias.0 ≡ a)
-  pub given : (j : ℕ) (g : RawAssocType) → j < k → slice_get gs j ≡ Some g → (g.alias.0 < count) × (last_of last g.alias.0 ≡ i + 1)
+  pub here : (a : ℕ) → last_of last a ≡ i + 1
+      → (j : ℕ) × (g : RawAssocType) × (j < k) × (slice_get gs j ≡ Some g) × (g.alias.0 ≡ a)
+  pub given : (j : ℕ) (g : RawAssocType) → j < k → slice_get gs j ≡ Some g
+      → (g.alias.0 < count) × (last_of last g.alias.0 ≡ i + 1)
   pub once : (j l : ℕ) (g h : RawAssocType) → j < k → l < k → slice_get gs j ≡ Some g → slice_get gs l ≡ Some h
       → g.alias.0 ≡ h.alias.0 → j ≡ l
