@@ -39,8 +39,7 @@ fn has_counts(raw: &RawFacts, function: &RawFn) -> bool
 fn may_have_self(function: &RawFn) -> bool
     ensures { result ≡ may_have_self function.now }
 {
-    !function.has_self
-        || (!matches!(function.at, RawAt::Module(_)) && !function.inputs.is_empty())
+    !function.has_self || (!matches!(function.at, RawAt::Module(_)) && !function.inputs.is_empty())
 }
 
 fn binds_self(has_self: bool, bound: Option<BindingId>) -> bool

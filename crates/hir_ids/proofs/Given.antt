@@ -56,20 +56,21 @@ module _ (count : ℕ) (gs : List RawAssocType) (i k : ℕ) (g : RawAssocType) (
       | inr other ↦ (let was = noted.here a (sym (set_other a other.1) ∙ e) in (was.0, was.1, (let lt : was.0 < k = was.2 in omega (arith, lt)), was.3, was.4))
     ];
     given = λ j h lt at. elim (eq-or-lt_of_le {n = j} {m = k} (omega arith)) as (λ _. (h.alias.0 < count) × (last_of new h.alias.0 ≡ i + 1)) [
-      | inl same ↦ (let one : h ≡ g = found_same h j same at in
-          (subst (λ (x : RawAssocType). x.alias.0 < count) (sym one) (let s : length last ≡ count = noted.size in omega (arith, inside, s)),
-          subst (λ (x : RawAssocType). last_of new x.alias.0 ≡ i + 1) (sym one) set_here))
+      | inl same ↦ (let one : h ≡ g = found_same h j same at in (
+        subst (λ (x : RawAssocType). x.alias.0 < count) (sym one) (let s : length last ≡ count = noted.size in omega (arith, inside, s)),
+        subst (λ (x : RawAssocType). last_of new x.alias.0 ≡ i + 1) (sym one) set_here,
+      ))
       | inr under ↦ (let was = noted.given j h under at in (was.0, still h.alias.0 was.1))
     ];
     once = λ j l h m lt_j lt_l at_j at_l same. elim (eq-or-lt_of_le {n = j} {m = k} (omega arith)) as (λ _. j ≡ l) [
       | inl here_j ↦ elim (eq-or-lt_of_le {n = l} {m = k} (omega arith)) as (λ _. j ≡ l) [
-          | inl here_l ↦ here_j ∙ sym here_l
-          | inr under_l ↦ absurd (apart l m under_l at_l (sym same ∙ ap (λ (x : RawAssocType). x.alias.0) (found_same h j here_j at_j)))
-        ]
+        | inl here_l ↦ here_j ∙ sym here_l
+        | inr under_l ↦ absurd (apart l m under_l at_l (sym same ∙ ap (λ (x : RawAssocType). x.alias.0) (found_same h j here_j at_j)))
+      ]
       | inr under_j ↦ elim (eq-or-lt_of_le {n = l} {m = k} (omega arith)) as (λ _. j ≡ l) [
-          | inl here_l ↦ absurd (apart j h under_j at_j (same ∙ ap (λ (x : RawAssocType). x.alias.0) (found_same m l here_l at_l)))
-          | inr under_l ↦ noted.once j l h m under_j under_l at_j at_l same
-        ]
+        | inl here_l ↦ absurd (apart j h under_j at_j (same ∙ ap (λ (x : RawAssocType). x.alias.0) (found_same m l here_l at_l)))
+        | inr under_l ↦ noted.once j l h m under_j under_l at_j at_l same
+      ]
     ];
   }
 

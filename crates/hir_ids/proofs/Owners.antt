@@ -16,11 +16,14 @@ owner_at raw xs i b x owners found is = named_at (owned_bodies raw) (length raw.
 -- the body of one definition stands where that stands
 home_is : (raw : RawFacts) (i : ℕ) (x : Namers) → IsNamedBy (owned_bodies raw) (length (owned_bodies raw)) i x → IsOne x → IsHome raw i (home_by (owner_impls raw) x)
 home_is raw i Nobody named one p = absurd one
-home_is raw i (One k) named one p = (λ h. (k, named.1, of_joined (slice_get (owner_impls raw) k) refl h), λ h.
-    (let lt : h.0 < length (owned_bodies raw) = slice_get_within (owned_bodies raw) h.0 (Some i) h.1 in
-    let same : h.0 ≡ k = named.2 h.0 lt h.1 in
-    let found : slice_get (owner_impls raw) k ≡ Some (Some p) = subst (λ n. slice_get (owner_impls raw) n ≡ Some (Some p)) same h.2 in
-    ap joined found))
+home_is raw i (One k) named one p = (
+  λ h. (k, named.1, of_joined (slice_get (owner_impls raw) k) refl h),
+  λ h.
+      (let lt : h.0 < length (owned_bodies raw) = slice_get_within (owned_bodies raw) h.0 (Some i) h.1 in
+      let same : h.0 ≡ k = named.2 h.0 lt h.1 in
+      let found : slice_get (owner_impls raw) k ≡ Some (Some p) = subst (λ n. slice_get (owner_impls raw) n ≡ Some (Some p)) same h.2 in
+      ap joined found),
+)
   where
     of_joined : (o : Option (Option ℕ)) → slice_get (owner_impls raw) k ≡ o → joined o ≡ Some p → slice_get (owner_impls raw) k ≡ Some (Some p)
     of_joined None at h = absurd (cc)

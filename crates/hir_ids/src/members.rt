@@ -111,9 +111,7 @@ pub fn are_impl_fns(raw: &RawFacts, number: usize, fns: &[FunctionId]) -> bool
 pub fn are_trait_consts(raw: &RawFacts, number: usize, consts: &[ConstId]) -> bool
     ensures { IsTrue result ↔ AreConstsAt (IsOfTrait number) raw.now consts.now }
 {
-    consts
-        .iter()
-        .all(|item| is_trait_const(raw, number, *item))
+    consts.iter().all(|item| is_trait_const(raw, number, *item))
 }
 
 /// Whether constants exist and stand in this impl.

@@ -8,8 +8,8 @@ use super::fault::{Misread, ReadError};
 use super::leaves::Profile;
 use super::reader::{FromData, expect_keys, field_of};
 use hir_facts::{
-    Edition, Facts, List, ModuleId, Other, RawAdt, RawAlias, RawConstItem, RawFacts, RawFn, RawImpl,
-    RawLang, RawLimits, RawStatic, RawTrait, RawType, RawVariant,
+    Edition, Facts, List, ModuleId, Other, RawAdt, RawAlias, RawConstItem, RawFacts, RawFn,
+    RawImpl, RawLang, RawLimits, RawStatic, RawTrait, RawType, RawVariant,
 };
 use hir_laws::{FactsError, lawful_facts};
 use serde_json::{Category, Value};

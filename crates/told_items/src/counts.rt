@@ -80,15 +80,10 @@ impl fmt::Display for WrongCount {
                     "`self` is an input of functions of traits and impls alone"
                 )
             }
-            WrongCount::SelfBound(true) => {
-                write!(f, "its body binds `self`, which it has not")
-            }
+            WrongCount::SelfBound(true) => { write!(f, "its body binds `self`, which it has not") }
             WrongCount::SelfBound(false) => write!(f, "it has `self`, and its body binds none"),
             WrongCount::NotBare => {
-                write!(
-                    f,
-                    "its body has `self` or parameters, and is no function's"
-                )
+                write!(f, "its body has `self` or parameters, and is no function's")
             }
             WrongCount::Discriminant => {
                 write!(f, "a discriminant is that of a variant of an enum")
@@ -312,7 +307,11 @@ fn of_fn(
         return Ok(Some(found));
     }
     let own = list(function, "params").len();
-    let wrongs = wrongs_of(alloc, facts, params_there(facts, function).saturating_add(own))?;
+    let wrongs = wrongs_of(
+        alloc,
+        facts,
+        params_there(facts, function).saturating_add(own),
+    )?;
     match of_signature(&wrongs, place, function) {
         Some(found) => Ok(Some(found)),
         None => of_body(alloc, &wrongs, facts, function.get("body")),

@@ -153,9 +153,7 @@ impl fmt::Display for WrongId {
                 write!(f, "{named} {number} is listed, which stands elsewhere")
             }
             WrongId::MemberListed(0) => write!(f, "no trait and no impl lists it"),
-            WrongId::MemberListed(times) => {
-                write!(f, "traits and impls list it {times} times")
-            }
+            WrongId::MemberListed(times) => { write!(f, "traits and impls list it {times} times") }
             WrongId::GivenAgain(alias) => {
                 write!(f, "associated type {alias} is given a second time")
             }

@@ -14,10 +14,12 @@ loop-at-init c =
 
 pub loop-at-preserved : goal.loop-at-preserved
 loop-at-preserved c =
-    let found : slice_get c.args.raw.now.impls c.loop-at.at ≡ Some c.index-impls-at.result = (rw ← c.as_slice.ensures (slice_get_read c.as_slice.result.now (length c.as_slice.result.now) c.loop-at.at c.index-impls-at.result refl c.loop-at-test.true c.index-impls-at.is)) in
-    (marks_more (length c.args.raw.now.aliases) c.args.raw.now.impls c.loop-at.at c.loop-at.marks.items c.in_ok-push.new.self.items c.index-impls-at.result c.are_given_once-mark.result c.loop-at.invariant.0 found
-    (rw c.loop-at.invariant.2 at c.are_given_once-mark.ensures.told) c.in_ok-push.ensures.items,
-    c.are_given_once-mark.ensures.before, c.are_given_once-mark.ensures.size ∙ c.loop-at.invariant.2)
+    let found : slice_get c.args.raw.now.impls c.loop-at.at ≡ Some c.index-impls-at.result = (rw ← c.as_slice.ensures (slice_get_read c.as_slice.result.now (length c.as_slice.result.now) c.loop-at.at c.index-impls-at.result refl c.loop-at-test.true c.index-impls-at.is)) in (
+      marks_more (length c.args.raw.now.aliases) c.args.raw.now.impls c.loop-at.at c.loop-at.marks.items c.in_ok-push.new.self.items c.index-impls-at.result c.are_given_once-mark.result c.loop-at.invariant.0 found
+          (rw c.loop-at.invariant.2 at c.are_given_once-mark.ensures.told) c.in_ok-push.ensures.items,
+      c.are_given_once-mark.ensures.before,
+      c.are_given_once-mark.ensures.size ∙ c.loop-at.invariant.2,
+    )
 
 pub returns : goal.returns
 returns c = let e : c.loop-at.at ≡ length c.args.raw.now.impls = omega arith in rw e at c.loop-at.invariant.0
