@@ -5,6 +5,7 @@ use Rattle.std.proofs.Common.{inl, inr, sym, ap, ◌∙◌, subst}
 use Rattle.std.specs.declared.alloc.AllocError.{AllocError}
 use Rattle.std.proofs.lemmas.Option.{same_Some}
 use Rattle.goal_facts.specs.Words.{Term, hole, TypeAliasId, GenericDefId, GenericArg, RawGoal, RawAlias, RawFacts, generic_params, IsLawful, Asked, System, Each, asked_at, known_below, Answer, HasHeads, RuleHasHeads, Decides}
+use Rattle.goal_facts.specs.Words.hir_facts.LawfulFacts.{limits_in_range}
 use Rattle.goal_facts.proofs.Words.{apply_hole}
 use Rattle.goal_facts.specs.Own.{own_params, goal_at, Has, AreDistinct, AllHaveHeads, Adds, SomeSays, env_preds, IsOwn, IsStated, trait_holes, Follows, IsClosure, BoundSays, AliasLists, fact, IsAnswer}
 use Rattle.goal_facts.proofs.Adding.{adds_as, adds_then}
@@ -98,7 +99,7 @@ alias_lists raw i k a xs gs x y is args bounds h =
 -- ---- answers
 
 pub depth_is_small : (raw : RawFacts) → IsLawful raw → raw.limits.goal_depth ≤ 32
-depth_is_small raw law = (law.all.1.1.1.1.1.1.1.1.1.1.1.1.1.1.1.1.1.1.1.1.1.1.1.1.1.1.1.1.1.1.1.1.1.1.1.1.1.1.1.0 0 raw.limits.goal_depth refl).1
+depth_is_small raw law = (limits_in_range raw law 0 raw.limits.goal_depth refl).1
 
 -- a goal whose holes stay is itself
 pub asked_itself : (g : Asked) → asked_at hole g ≡ g

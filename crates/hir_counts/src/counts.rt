@@ -1,15 +1,18 @@
 //! Counts of inputs, arguments, parameters and variants.
 ghost use Rattle.std.specs.Prelude.{◌≡◌, ◌↔◌, ◌+◌, ◌<◌, ℕ, Some, [], length, slice_get, slice_index, IsTrue, IfOk, IfSome};
 ghost use Rattle.hir_counts.specs.Words.{RawField, Said, AllHold, ChildrenBefore, param_bound, wrong_args, count_of, CountsFit, AdtFitsBy, TypeFits, ConstFits, MentionFits, BodyFits, MaybeBodyFits, body_at, AreFitting, FnFitsBy, FnFits, HasVariants, AdtFits, param_count, IsBare, VariantFitsBy, VariantFits};
+ghost use Rattle.hir_counts.specs.Words.hir_facts.Counts.{FnFitsUnder, SelfFits, may_have_self, binds_self, is_struct, is_type_at, may_unsize, is_enum_kind, is_enum, may_have_discriminant};
 ghost use Rattle.hir_counts.specs.Own.{number_in, AreMosts};
 
 use crate::goal_counts::goals_fit;
+use crate::member_counts::params_there;
 use crate::standing::{Sought, mosts_of};
-use hir_ids::{Test, said_of_body};
+use hir_ids::{Test, is_type_param, said_of_body};
 use hir_raw::{
-    Mention, RawAdt, RawAdtKind, RawBody, RawConst, RawFacts, RawField, RawFn, RawVariant, Said,
+    Mention, RawAdt, RawAdtKind, RawAt, RawBody, RawConst, RawFacts, RawField, RawFn, RawParam,
+    RawVariant, Said,
 };
-use hir_types::{AdtId, BodyId, TypeRefId};
+use hir_types::{AdtId, BindingId, BodyId, TypeRefId};
 use std::alloc::{AllocError, Global};
 
 fn takes(body: &RawBody, inputs: usize) -> bool
@@ -29,6 +32,33 @@ fn has_counts(raw: &RawFacts, function: &RawFn) -> bool
         Some(body) => match raw.bodies.get(body.0 as usize) {
             None => true,
             Some(body) => takes(body, function.inputs.len()),
+        },
+    }
+}
+
+fn may_have_self(function: &RawFn) -> bool
+    ensures { result ≡ may_have_self function.now }
+{
+    !function.has_self || (!matches!(function.at, RawAt::Module(_)) && !function.inputs.is_empty())
+}
+
+fn binds_self(has_self: bool, bound: Option<BindingId>) -> bool
+    ensures { result ≡ binds_self has_self bound }
+{
+    match bound {
+        None => !has_self,
+        Some(_) => has_self,
+    }
+}
+
+fn self_fits(raw: &RawFacts, function: &RawFn) -> bool
+    ensures { IsTrue result ↔ SelfFits raw.now function.now }
+{
+    match function.body {
+        None => true,
+        Some(body) => match raw.bodies.get(body.0 as usize) {
+            None => true,
+            Some(body) => binds_self(function.has_self, body.self_),
         },
     }
 }
@@ -113,7 +143,8 @@ fn body_fits(
     Ok(mentions_fit(standing, count, &said))
 }
 
-fn maybe_body_fits(
+/// Whether what is written in a body fits under so many parameters.
+pub fn maybe_body_fits(
     alloc: Global,
     standing: &Standing,
     raw: &RawFacts,
@@ -142,14 +173,16 @@ fn fn_fits(
     alloc: Global,
     standing: &Standing,
     raw: &RawFacts,
+    count: usize,
     function: &RawFn,
 ) -> Result<bool, AllocError>
-    ensures { IfOk result (λ told. IsTrue told ↔ FnFitsBy (number_in standing.now.bounds.items) (number_in standing.now.wrongs.items) raw.now function.now) }
+    ensures { IfOk result (λ told. IsTrue told ↔ FnFitsUnder (number_in standing.now.bounds.items) (number_in standing.now.wrongs.items) raw.now count function.now) }
 {
-    let count = function.params.len();
     let body = maybe_body_fits(alloc, standing, raw, count, function.body)?;
     Ok(
         has_counts(raw, function)
+            && may_have_self(function)
+            && self_fits(raw, function)
             && are_fitting(standing, count, function.inputs.as_slice())
             && fits(standing, count, function.output)
             && goals_fit(standing, raw, count, function.preds.as_slice())
@@ -157,7 +190,8 @@ fn fn_fits(
     )
 }
 
-/// The counts of a function, and its written types under its own parameters.
+/// The counts of a function, and its written types under the parameters of the trait or impl in which it
+/// stands, and its own.
 #[derive(Drop)]
 pub struct FnCounts<'a> {
     pub standing: &'a Standing,
@@ -179,7 +213,8 @@ impl<'a> Test for FnCounts<'a> {
         _at: usize,
         item: &RawFn,
     ) -> Result<bool, AllocError> {
-        fn_fits(alloc, self.standing, raw, item)
+        let count = params_there(raw, item.at) + item.params.len();
+        fn_fits(alloc, self.standing, raw, count, item)
     }
 }
 
@@ -192,12 +227,30 @@ fn has_variants(kind: RawAdtKind, count: usize) -> bool
     }
 }
 
-fn is_below(number: Option<u32>, count: usize) -> bool
-    ensures { IsTrue result ↔ IfSome number (λ n. n < count) }
+fn is_struct(kind: RawAdtKind) -> bool
+    ensures { result ≡ is_struct kind }
 {
-    match number {
+    match kind {
+        RawAdtKind::Struct => true,
+        RawAdtKind::Enum | RawAdtKind::Union => false,
+    }
+}
+
+fn is_type_at(params: &[RawParam], at: usize) -> bool
+    ensures { result ≡ is_type_at (slice_get params.now at) }
+{
+    match params.get(at) {
+        None => false,
+        Some(param) => is_type_param(param),
+    }
+}
+
+fn may_unsize(adt: &RawAdt) -> bool
+    ensures { result ≡ may_unsize adt.now adt.now.unsize }
+{
+    match adt.unsize {
         None => true,
-        Some(number) => (number as usize) < count,
+        Some(number) => is_struct(adt.kind) && is_type_at(adt.params.as_slice(), number as usize),
     }
 }
 
@@ -205,7 +258,7 @@ fn adt_fits(standing: &Standing, raw: &RawFacts, adt: &RawAdt) -> bool
     ensures { IsTrue result ↔ AdtFitsBy (number_in standing.now.bounds.items) (number_in standing.now.wrongs.items) raw.now adt.now }
 {
     has_variants(adt.kind, adt.variants.len())
-        && is_below(adt.unsize, adt.params.len())
+        && may_unsize(adt)
         && goals_fit(standing, raw, adt.params.len(), adt.preds.as_slice())
 }
 
@@ -252,7 +305,8 @@ fn fields_fit(standing: &Standing, count: usize, fields: &[RawField]) -> bool
         .all(|field| fits(standing, count, field.type_))
 }
 
-fn is_bare(raw: &RawFacts, body: Option<BodyId>) -> bool
+/// Whether a body has neither `self` nor parameters.
+pub fn is_bare(raw: &RawFacts, body: Option<BodyId>) -> bool
     ensures { IsTrue result ↔ IsBare (body_at raw.now body) }
 {
     match body {
@@ -262,6 +316,30 @@ fn is_bare(raw: &RawFacts, body: Option<BodyId>) -> bool
             Some(body) => body.self_.is_none() && body.params.is_empty(),
         },
     }
+}
+
+fn is_enum_kind(kind: RawAdtKind) -> bool
+    ensures { result ≡ is_enum_kind kind }
+{
+    match kind {
+        RawAdtKind::Enum => true,
+        RawAdtKind::Struct | RawAdtKind::Union => false,
+    }
+}
+
+fn is_enum(raw: &RawFacts, adt: AdtId) -> bool
+    ensures { result ≡ is_enum (slice_get raw.now.adts adt.0) }
+{
+    match raw.adts.get(adt.0 as usize) {
+        None => true,
+        Some(adt) => is_enum_kind(adt.kind),
+    }
+}
+
+fn may_have_discriminant(raw: &RawFacts, variant: &RawVariant) -> bool
+    ensures { result ≡ may_have_discriminant raw.now variant.now }
+{
+    variant.body.is_none() || is_enum(raw, variant.adt)
 }
 
 fn variant_fits(
@@ -274,7 +352,12 @@ fn variant_fits(
 {
     let count = param_count(raw, variant.adt);
     let body = maybe_body_fits(alloc, standing, raw, count, variant.body)?;
-    Ok(fields_fit(standing, count, variant.fields.as_slice()) && is_bare(raw, variant.body) && body)
+    Ok(
+        fields_fit(standing, count, variant.fields.as_slice())
+            && is_bare(raw, variant.body)
+            && may_have_discriminant(raw, variant)
+            && body,
+    )
 }
 
 /// The written types of a variant under the parameters of its adt.

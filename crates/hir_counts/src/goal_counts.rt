@@ -10,7 +10,8 @@ use hir_raw::{RawAlias, RawAssocType, RawFacts, RawGoal, RawImpl, RawTrait, RawT
 use hir_types::{TraitId, TypeAliasId, TypeRefId};
 use std::alloc::{AllocError, Global};
 
-fn trait_params(raw: &RawFacts, id: TraitId) -> usize
+/// How many parameters are in scope in a trait: the type that implements it, and its own.
+pub fn trait_params(raw: &RawFacts, id: TraitId) -> usize
     ensures { result ≡ trait_params (slice_get raw.now.traits id.0) }
 {
     match raw.traits.get(id.0 as usize) {

@@ -5,7 +5,9 @@ ghost use Rattle.hir_counts.specs.Own.{AreMeasures};
 
 use crate::goal_sizes::goals_are_short;
 use hir_ids::Test;
-use hir_raw::{Former, Mention, RawAdt, RawFacts, RawFn, RawPrincipal, RawType, RawVariant};
+use hir_raw::{
+    Former, Mention, RawAdt, RawConstItem, RawFacts, RawFn, RawPrincipal, RawStatic, RawType, RawVariant,
+};
 use hir_types::{List, ModuleId, TraitId, TypeAliasId, TypeRefId};
 use std::alloc::{AllocError, Global};
 
@@ -327,5 +329,51 @@ impl Test for FnSizes {
                 && goals_are_short(item.preds.as_slice())
                 && is_short(item.inputs.as_slice()),
         )
+    }
+}
+
+/// There are not too many constants.
+pub struct ConstsEarly;
+
+impl Test for ConstsEarly {
+    type Item = RawConstItem;
+
+    ghost listed = { λ raw. raw.consts };
+
+    ghost holds = { λ raw i c. IsEarly i };
+
+    ghost given = { λ raw s. Unit {0} };
+
+    fn test(
+        &self,
+        _alloc: Global,
+        _raw: &RawFacts,
+        at: usize,
+        _item: &RawConstItem,
+    ) -> Result<bool, AllocError> {
+        Ok(is_early(at))
+    }
+}
+
+/// There are not too many statics.
+pub struct StaticsEarly;
+
+impl Test for StaticsEarly {
+    type Item = RawStatic;
+
+    ghost listed = { λ raw. raw.statics };
+
+    ghost holds = { λ raw i s. IsEarly i };
+
+    ghost given = { λ raw s. Unit {0} };
+
+    fn test(
+        &self,
+        _alloc: Global,
+        _raw: &RawFacts,
+        at: usize,
+        _item: &RawStatic,
+    ) -> Result<bool, AllocError> {
+        Ok(is_early(at))
     }
 }

@@ -1,13 +1,16 @@
 //! Where written types are used: a `_` stands once, in a type written in a body.
 ghost use Rattle.std.specs.Prelude.{◌≡◌, ◌++◌, Some, map, length, flat_map, IfOk, OnOk};
 ghost use Rattle.hir_counts.specs.Words.{AllHold, ChildrenBefore, hole_at, type_uses, mention_uses, body_uses, inner_uses, variant_uses, fn_uses, abstract_uses, item_uses, HoleFits};
+ghost use Rattle.hir_counts.specs.Words.hir_facts.Uses.{const_use, static_use, value_uses};
 ghost use Rattle.hir_counts.specs.Own.{AreMosts, AreTypeUsers};
 
 use crate::counts::number_at;
 use crate::goal_uses::{push_goals_of, push_impls};
 use crate::standing::{Sought, mosts_of};
 use hir_ids::{Namers, Test, is_nobody, is_one, namers_of, said_of_body};
-use hir_raw::{Mention, RawBody, RawFacts, RawField, RawFn, RawType, RawVariant, Said};
+use hir_raw::{
+    Mention, RawBody, RawConstItem, RawFacts, RawField, RawFn, RawStatic, RawType, RawVariant, Said,
+};
 use hir_types::TypeRefId;
 use std::alloc::{AllocError, Global};
 
@@ -125,13 +128,41 @@ fn push_abstract(out: &mut Vec<Option<usize>>, raw: &RawFacts) -> Result<(), All
     Ok(())
 }
 
+fn push_items(out: &mut Vec<Option<usize>>, raw: &RawFacts) -> Result<(), AllocError>
+    ensures { OnOk result (out.new.items ≡ out.old.items ++ item_uses raw.now) }
+{
+    push_variants(out, raw.variants.as_slice())?;
+    push_fns(out, raw.fns.as_slice())?;
+    push_abstract(out, raw)?;
+    Ok(())
+}
+
+fn push_consts(out: &mut Vec<Option<usize>>, consts: &[RawConstItem]) -> Result<(), AllocError>
+    ensures { OnOk result (out.new.items ≡ out.old.items ++ map const_use consts.now) }
+{
+    for item in consts {
+        out.push(Some(item.type_.0 as usize))?;
+    }
+    Ok(())
+}
+
+fn push_statics(out: &mut Vec<Option<usize>>, statics: &[RawStatic]) -> Result<(), AllocError>
+    ensures { OnOk result (out.new.items ≡ out.old.items ++ map static_use statics.now) }
+{
+    for item in statics {
+        out.push(Some(item.type_.0 as usize))?;
+    }
+    Ok(())
+}
+
+/// The types that items are written with.
 fn item_uses(alloc: Global, raw: &RawFacts) -> Result<Vec<Option<usize>>, AllocError>
-    ensures { IfOk result (λ v. v.items ≡ item_uses raw.now) }
+    ensures { IfOk result (λ v. v.items ≡ item_uses raw.now ++ value_uses raw.now) }
 {
     let mut out = Vec::new(alloc);
-    push_variants(&mut out, raw.variants.as_slice())?;
-    push_fns(&mut out, raw.fns.as_slice())?;
-    push_abstract(&mut out, raw)?;
+    push_items(&mut out, raw)?;
+    push_consts(&mut out, raw.consts.as_slice())?;
+    push_statics(&mut out, raw.statics.as_slice())?;
     Ok(out)
 }
 

@@ -67,7 +67,8 @@ is_carried_variant v = is_carried_ctor v.ctor && is_none v.body
 
 abbrev pub is_in_module : RawAt → Bool
 is_in_module (stands.Module m) = true
-is_in_module stands.Other = false
+is_in_module (stands.Impl p) = false
+is_in_module (stands.Trait t) = false
 
 -- a function of a module whose parameters are types, without `self`
 abbrev pub is_carried_fn : RawFn → Bool

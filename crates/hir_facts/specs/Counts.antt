@@ -1,12 +1,14 @@
 -- A function has as many inputs as its body has parameters, `self` counted; what is written fits the
 -- parameters in scope; a struct or union has one variant; goals have as many arguments as their traits parameters.
-use Rattle.std.specs.Prelude.{ℕ, ◌+◌, ◌<◌, ◌≤◌, ◌≡◌, [], List, length, slice_get, Option, Some, None, IfSome}
-use Rattle.hir_facts.specs.Words.{BindingId, BodyId, TypeRefId, RawAdtKind, RawAdt, RawField, RawTraitRef, RawGoal, RawTrait, RawAlias, RawAssocType, RawImpl, RawVariant, RawFn, RawBody, RawFacts, RawConst, arg_types, Mention, AllMentioned}
+use Rattle.std.specs.Prelude.{ℕ, ◌+◌, ◌<◌, ◌≤◌, ◌≡◌, ◌&&◌, ◌||◌, Bool, true, false, not, IsTrue, [], List, length, slice_get, Option, Some, None, is_none, IfSome}
+use Rattle.hir_facts.specs.Words.{BindingId, BodyId, TypeRefId, RawAdtKind, RawAdt, RawField, RawTraitRef, RawGoal, RawTrait, RawAlias, RawAssocType, RawImpl, RawVariant, RawFn, RawAt, RawConstItem, RawStatic, RawBody, RawParam, RawFacts, RawConst, arg_types, Mention, AllMentioned}
 use Rattle.hir_raw.specs.declared.raw.RawAdtKind.TheVariants as kind
 use Rattle.hir_raw.specs.declared.raw.RawGoal.TheVariants as goal
+use Rattle.hir_raw.specs.declared.raw.RawAt.TheVariants as stands
 use Rattle.hir_raw.specs.declared.mention.Mention.TheVariants as it
 use Rattle.hir_raw.specs.declared.later.RawConst.TheVariants as constant
 use Rattle.hir_facts.specs.Standing.{params_in, wrongs_in}
+use Rattle.hir_facts.specs.Carried.{is_empty, is_in_module, is_type_param}
 
 abbrev pub count_of : Option BindingId → ℕ
 count_of None = 0
@@ -16,6 +18,19 @@ abbrev pub CountsFit : RawFacts → RawFn → Type 0
 CountsFit raw f =
     (i : BodyId) (b : RawBody) → f.body ≡ Some i → slice_get raw.bodies i.0 ≡ Some b
     → length f.inputs ≡ count_of b.self_ + length b.params
+
+-- `self` is an input of a function in a trait or an impl
+abbrev pub may_have_self : RawFn → Bool
+may_have_self f = not f.has_self || (not (is_in_module f.«at») && not (is_empty f.inputs))
+
+abbrev pub binds_self : Bool → Option BindingId → Bool
+binds_self has_self None = not has_self
+binds_self has_self (Some v) = has_self
+
+-- its body binds `self` exactly where it has one
+abbrev pub SelfFits : RawFacts → RawFn → Type 0
+SelfFits raw f =
+    (i : BodyId) (b : RawBody) → f.body ≡ Some i → slice_get raw.bodies i.0 ≡ Some b → IsTrue (binds_self f.has_self b.self_)
 
 -- ---- written types, where `bounds` has a bound of the parameters in each type, and `wrongs` 0 where its argument lists are right
 
@@ -113,18 +128,57 @@ pub record ImplFitsBy (bounds wrongs : ℕ → ℕ) (raw : RawFacts) (p : RawImp
 abbrev pub ImplFits : RawFacts → RawImpl → Type 0
 ImplFits raw p = ImplFitsBy (params_in raw) (wrongs_in raw) raw p
 
--- ---- functions
+-- ---- functions, constants and statics
 
--- the counts of a function, and its written types under its own parameters
-pub record FnFitsBy (bounds wrongs : ℕ → ℕ) (raw : RawFacts) (f : RawFn) : Type 0 where
+abbrev pub impl_params : Option RawImpl → ℕ
+impl_params None = 0
+impl_params (Some p) = length p.params
+
+-- the parameters of the impl or trait in which an item stands come before its own
+abbrev pub params_there : RawFacts → RawAt → ℕ
+params_there raw (stands.Module m) = 0
+params_there raw (stands.Impl p) = impl_params (slice_get raw.impls p.0)
+params_there raw (stands.Trait t) = trait_params (slice_get raw.traits t.0)
+
+-- the counts of a function, and its written types under this many parameters
+pub record FnFitsUnder (bounds wrongs : ℕ → ℕ) (raw : RawFacts) (count : ℕ) (f : RawFn) : Type 0 where
   pub counts : CountsFit raw f
-  pub inputs : AreFitting bounds wrongs (length f.params) f.inputs
-  pub output : TypeFits bounds wrongs (length f.params) f.output
-  pub preds : GoalsFit bounds wrongs raw (length f.params) f.preds
-  pub body : MaybeBodyFits bounds wrongs (length f.params) (body_at raw f.body)
+  pub self_input : IsTrue (may_have_self f)
+  pub self_bound : SelfFits raw f
+  pub inputs : AreFitting bounds wrongs count f.inputs
+  pub output : TypeFits bounds wrongs count f.output
+  pub preds : GoalsFit bounds wrongs raw count f.preds
+  pub body : MaybeBodyFits bounds wrongs count (body_at raw f.body)
+
+abbrev pub FnFitsBy : (bounds wrongs : ℕ → ℕ) → RawFacts → RawFn → Type 0
+FnFitsBy bounds wrongs raw f = FnFitsUnder bounds wrongs raw (params_there raw f.«at» + length f.params) f
 
 abbrev pub FnFits : RawFacts → RawFn → Type 0
 FnFits raw f = FnFitsBy (params_in raw) (wrongs_in raw) raw f
+
+-- a body that is not a function's has neither `self` nor parameters
+abbrev pub IsBare : Option RawBody → Type 0
+IsBare None = Unit {0}
+IsBare (Some b) = (b.self_ ≡ None) × (b.params ≡ [])
+
+-- what a constant or a static is written with, under this many parameters
+pub record ValueFits (bounds wrongs : ℕ → ℕ) (raw : RawFacts) (count : ℕ) (t : TypeRefId) (body : Option BodyId) : Type 0 where
+  pub written : TypeFits bounds wrongs count t
+  pub bare : IsBare (body_at raw body)
+  pub body : MaybeBodyFits bounds wrongs count (body_at raw body)
+
+abbrev pub ConstItemFitsBy : (bounds wrongs : ℕ → ℕ) → RawFacts → RawConstItem → Type 0
+ConstItemFitsBy bounds wrongs raw c = ValueFits bounds wrongs raw (params_there raw c.«at») c.type_ c.body
+
+abbrev pub ConstItemFits : RawFacts → RawConstItem → Type 0
+ConstItemFits raw c = ConstItemFitsBy (params_in raw) (wrongs_in raw) raw c
+
+-- a static has no parameters
+abbrev pub StaticFitsBy : (bounds wrongs : ℕ → ℕ) → RawFacts → RawStatic → Type 0
+StaticFitsBy bounds wrongs raw s = ValueFits bounds wrongs raw 0 s.type_ s.body
+
+abbrev pub StaticFits : RawFacts → RawStatic → Type 0
+StaticFits raw s = StaticFitsBy (params_in raw) (wrongs_in raw) raw s
 
 -- ---- adts and variants
 
@@ -134,9 +188,28 @@ HasVariants kind.Struct n = n ≡ 1
 HasVariants kind.Enum n = Unit {0}
 HasVariants kind.Union n = n ≡ 1
 
+abbrev pub is_enum_kind : RawAdtKind → Bool
+is_enum_kind kind.Struct = false
+is_enum_kind kind.Enum = true
+is_enum_kind kind.Union = false
+
+abbrev pub is_struct : RawAdtKind → Bool
+is_struct kind.Struct = true
+is_struct kind.Enum = false
+is_struct kind.Union = false
+
+abbrev pub is_type_at : Option RawParam → Bool
+is_type_at None = false
+is_type_at (Some p) = is_type_param p
+
+-- the parameter that may lose its size, if any, is a type parameter of a struct
+abbrev pub may_unsize : RawAdt → Option ℕ → Bool
+may_unsize a None = true
+may_unsize a (Some n) = is_struct a.kind && is_type_at (slice_get a.params n)
+
 pub record AdtFitsBy (bounds wrongs : ℕ → ℕ) (raw : RawFacts) (a : RawAdt) : Type 0 where
   pub variants : HasVariants a.kind (length a.variants)
-  pub unsize : IfSome a.unsize (λ n. n < length a.params)
+  pub unsize : IsTrue (may_unsize a a.unsize)
   pub preds : GoalsFit bounds wrongs raw (length a.params) a.preds
 
 abbrev pub AdtFits : RawFacts → RawAdt → Type 0
@@ -146,16 +219,20 @@ abbrev pub param_count : Option RawAdt → ℕ
 param_count None = 0
 param_count (Some a) = length a.params
 
--- a body that is not a function's has neither `self` nor parameters
-abbrev pub IsBare : Option RawBody → Type 0
-IsBare None = Unit {0}
-IsBare (Some b) = (b.self_ ≡ None) × (b.params ≡ [])
+abbrev pub is_enum : Option RawAdt → Bool
+is_enum None = true
+is_enum (Some a) = is_enum_kind a.kind
+
+-- a discriminant is that of an enum's variant
+abbrev pub may_have_discriminant : RawFacts → RawVariant → Bool
+may_have_discriminant raw v = is_none v.body || is_enum (slice_get raw.adts v.adt.0)
 
 -- the written types of a variant under the parameters of its adt
 pub record VariantFitsBy (bounds wrongs : ℕ → ℕ) (raw : RawFacts) (v : RawVariant) : Type 0 where
   pub fields : (k : ℕ) (f : RawField) → slice_get v.fields k ≡ Some f
       → TypeFits bounds wrongs (param_count (slice_get raw.adts v.adt.0)) f.type_
   pub bare : IsBare (body_at raw v.body)
+  pub discriminant : IsTrue (may_have_discriminant raw v)
   pub body : MaybeBodyFits bounds wrongs (param_count (slice_get raw.adts v.adt.0)) (body_at raw v.body)
 
 abbrev pub VariantFits : RawFacts → RawVariant → Type 0

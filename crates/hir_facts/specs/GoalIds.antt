@@ -4,6 +4,7 @@ use Rattle.hir_facts.specs.Words.{TypeRefId, TypeAliasId, RawTraitRef, RawGoal, 
 use Rattle.hir_raw.specs.declared.raw.RawGoal.TheVariants as goal
 use Rattle.hir_raw.specs.declared.raw.RawLang.TheVariants as lang
 use Rattle.hir_facts.specs.Named.{NamedOnce}
+use Rattle.hir_facts.specs.Members.{IsOfTrait, IsOfImpl, AreFnsAt, AreConstsAt, GiveOnce}
 
 abbrev pub TypesExist : RawFacts → List TypeRefId → Type 0
 TypesExist raw ts = (k : ℕ) (w : TypeRefId) → slice_get ts k ≡ Some w → w.0 < length raw.types
@@ -27,10 +28,12 @@ GoalsExist raw gs = (k : ℕ) (g : RawGoal) → slice_get gs k ≡ Some g → Go
 abbrev pub IsAliasOf : RawFacts → ℕ → TypeAliasId → Type 0
 IsAliasOf raw i a = (x : RawAlias) × (slice_get raw.aliases a.0 ≡ Some x) × (x.trait_.0 ≡ i)
 
--- what a trait names exists, and its associated types agree that they are its
+-- what a trait names exists, and what it lists agrees that it is its
 pub record TraitIdsExist (raw : RawFacts) (i : ℕ) (t : RawTrait) : Type 0 where
   pub preds : GoalsExist raw t.preds
   pub types : (k : ℕ) (a : TypeAliasId) → slice_get t.types k ≡ Some a → IsAliasOf raw i a
+  pub fns : AreFnsAt (IsOfTrait i) raw t.fns
+  pub consts : AreConstsAt (IsOfTrait i) raw t.consts
 
 -- the associated types that traits list, one trait after another
 abbrev pub trait_aliases : RawTrait → List (Option ℕ)
@@ -56,11 +59,18 @@ IsGivenIn raw None g = ⊥
 IsGivenIn raw (Some r) g = IsAliasOf raw r.trait_.0 g.alias × (g.ty.0 < length raw.types)
 
 -- what an impl names exists, and it gives types to associated types of its trait alone
-pub record ImplIdsExist (raw : RawFacts) (p : RawImpl) : Type 0 where
+pub record ImplIdsHere (raw : RawFacts) (p : RawImpl) : Type 0 where
   pub trait_ : IfSome p.trait_ (TraitRefExists raw)
   pub preds : GoalsExist raw p.preds
   pub self_ : p.self_.0 < length raw.types
   pub types : (k : ℕ) (g : RawAssocType) → slice_get p.types k ≡ Some g → IsGivenIn raw p.trait_ g
+
+-- so it does, each once, and what it lists agrees that it is its
+pub record ImplIdsExist (raw : RawFacts) (i : ℕ) (p : RawImpl) : Type 0 where
+  pub here : ImplIdsHere raw p
+  pub once : GiveOnce p.types
+  pub fns : AreFnsAt (IsOfImpl i) raw p.fns
+  pub consts : AreConstsAt (IsOfImpl i) raw p.consts
 
 -- ---- the language's items
 

@@ -9,9 +9,9 @@ use Rattle.hir_facts.specs.Entries.{AllHold, BreaksAt}
 use Rattle.hir_facts.specs.Carried.{is_carried_written_type, is_carried_adt, is_carried_trait, is_carried_alias, is_carried_impl, is_carried_lang, is_carried_fn}
 use Rattle.hir_facts.specs.Projections.{VariantIsCarried}
 use Rattle.hir_facts.specs.GoalIds.{TraitIdsExist, AliasIdsExist, ImplIdsExist, LangExists}
-use Rattle.hir_facts.specs.Ids.{TypeIdsExist, ParentBefore, AdtIdsExist, VariantIdsExist, FnIdsExist, BodyIdsExist}
+use Rattle.hir_facts.specs.Ids.{TypeIdsExist, ParentBefore, AdtIdsExist, VariantIdsExist, FnIdsExist, ConstIdsExist, StaticIdsExist, BodyIdsExist}
 use Rattle.hir_facts.specs.Objects.{KindFits}
-use Rattle.hir_facts.specs.Counts.{AdtFits, VariantFits, FnFits, TraitFits, AliasFits, ImplFits}
+use Rattle.hir_facts.specs.Counts.{AdtFits, VariantFits, FnFits, ConstItemFits, StaticFits, TraitFits, AliasFits, ImplFits}
 use Rattle.hir_facts.specs.Trees.{IsWellFormed}
 use Rattle.hir_facts.specs.Scopes.{ScopesHold}
 use Rattle.hir_facts.specs.Sizes.{IsEarly, TypeIsSmall, AdtIsSmall, VariantIsSmall, FnIsSmall, TraitIsSmall, AliasIsSmall, ImplIsSmall, BodyIsSmall}
@@ -55,10 +55,12 @@ ids_at S raw list.Types = S _ (TypeIdsExist raw) raw.types
 ids_at S raw list.Modules = S _ ParentBefore raw.modules
 ids_at S raw list.Adts = S _ (AdtIdsExist raw) raw.adts
 ids_at S raw list.Variants = S _ (VariantIdsExist raw) raw.variants
-ids_at S raw list.Fns = S _ (λ i f. FnIdsExist raw f) raw.fns
+ids_at S raw list.Fns = S _ (FnIdsExist raw) raw.fns
+ids_at S raw list.Consts = S _ (ConstIdsExist raw) raw.consts
+ids_at S raw list.Statics = S _ (λ i s. StaticIdsExist raw s) raw.statics
 ids_at S raw list.Traits = S _ (TraitIdsExist raw) raw.traits
 ids_at S raw list.Aliases = S _ (AliasIdsExist raw) raw.aliases
-ids_at S raw list.Impls = S _ (λ i p. ImplIdsExist raw p) raw.impls
+ids_at S raw list.Impls = S _ (ImplIdsExist raw) raw.impls
 ids_at S raw list.Lang = S _ (λ i l. LangExists raw l) raw.lang
 ids_at S raw list.Bodies = S _ (BodyIdsExist raw) raw.bodies
 ids_at S raw _ = S ℕ all_hold []
@@ -68,6 +70,8 @@ counts_at S raw list.Types = S _ (λ i t. KindFits raw t) raw.types
 counts_at S raw list.Adts = S _ (λ i a. AdtFits raw a) raw.adts
 counts_at S raw list.Variants = S _ (λ i v. VariantFits raw v) raw.variants
 counts_at S raw list.Fns = S _ (λ i f. FnFits raw f) raw.fns
+counts_at S raw list.Consts = S _ (λ i c. ConstItemFits raw c) raw.consts
+counts_at S raw list.Statics = S _ (λ i s. StaticFits raw s) raw.statics
 counts_at S raw list.Traits = S _ (λ i t. TraitFits raw t) raw.traits
 counts_at S raw list.Aliases = S _ (λ i a. AliasFits raw a) raw.aliases
 counts_at S raw list.Impls = S _ (λ i p. ImplFits raw p) raw.impls
@@ -79,6 +83,8 @@ sizes_at S raw list.Modules = S _ (λ i m. IsEarly i) raw.modules
 sizes_at S raw list.Adts = S _ AdtIsSmall raw.adts
 sizes_at S raw list.Variants = S _ VariantIsSmall raw.variants
 sizes_at S raw list.Fns = S _ FnIsSmall raw.fns
+sizes_at S raw list.Consts = S _ (λ i c. IsEarly i) raw.consts
+sizes_at S raw list.Statics = S _ (λ i s. IsEarly i) raw.statics
 sizes_at S raw list.Traits = S _ TraitIsSmall raw.traits
 sizes_at S raw list.Aliases = S _ AliasIsSmall raw.aliases
 sizes_at S raw list.Impls = S _ ImplIsSmall raw.impls
@@ -115,7 +121,8 @@ test l k = record { law = l; list = k }
 
 abbrev pub item_tests : List Test
 item_tests =
-    test law.Carried list.Adts ∷ test law.Carried list.Variants ∷ test law.Carried list.Fns ∷ []
+    test law.Carried list.Types ∷ test law.Carried list.Adts ∷ test law.Carried list.Variants
+    ∷ test law.Carried list.Fns ∷ []
 
 -- of constants, statics and opaque types no entry is carried
 abbrev pub unread_tests : List Test
@@ -132,14 +139,15 @@ carried_tests = item_tests ++ (unread_tests ++ abstract_tests)
 abbrev pub ids_tests : List Test
 ids_tests =
     test law.Ids list.Types ∷ test law.Ids list.Modules ∷ test law.Ids list.Adts
-    ∷ test law.Ids list.Variants ∷ test law.Ids list.Fns ∷ test law.Ids list.Traits
-    ∷ test law.Ids list.Aliases ∷ test law.Ids list.Impls ∷ test law.Ids list.Lang
-    ∷ test law.Ids list.Bodies ∷ []
+    ∷ test law.Ids list.Variants ∷ test law.Ids list.Fns ∷ test law.Ids list.Consts
+    ∷ test law.Ids list.Statics ∷ test law.Ids list.Traits ∷ test law.Ids list.Aliases
+    ∷ test law.Ids list.Impls ∷ test law.Ids list.Lang ∷ test law.Ids list.Bodies ∷ []
 
 abbrev pub counts_tests : List Test
 counts_tests =
     test law.Counts list.Types ∷ test law.Counts list.Adts ∷ test law.Counts list.Variants ∷ test law.Counts list.Fns
-    ∷ test law.Counts list.Traits ∷ test law.Counts list.Aliases ∷ test law.Counts list.Impls ∷ []
+    ∷ test law.Counts list.Consts ∷ test law.Counts list.Statics ∷ test law.Counts list.Traits
+    ∷ test law.Counts list.Aliases ∷ test law.Counts list.Impls ∷ []
 
 abbrev pub trees_tests : List Test
 trees_tests = test law.Trees list.Bodies ∷ []
@@ -150,9 +158,9 @@ scopes_tests = test law.Scopes list.Bodies ∷ []
 abbrev pub sizes_tests : List Test
 sizes_tests =
     test law.Sizes list.Types ∷ test law.Sizes list.Modules ∷ test law.Sizes list.Adts
-    ∷ test law.Sizes list.Variants ∷ test law.Sizes list.Fns ∷ test law.Sizes list.Traits
-    ∷ test law.Sizes list.Aliases ∷ test law.Sizes list.Impls ∷ test law.Sizes list.Lang
-    ∷ test law.Sizes list.Bodies ∷ []
+    ∷ test law.Sizes list.Variants ∷ test law.Sizes list.Fns ∷ test law.Sizes list.Consts
+    ∷ test law.Sizes list.Statics ∷ test law.Sizes list.Traits ∷ test law.Sizes list.Aliases
+    ∷ test law.Sizes list.Impls ∷ test law.Sizes list.Lang ∷ test law.Sizes list.Bodies ∷ []
 
 abbrev pub limits_tests : List Test
 limits_tests = test law.Limits list.Limits ∷ []
@@ -166,16 +174,12 @@ literals_tests = test law.Literals list.Variants ∷ test law.Literals list.Bodi
 abbrev pub holes_tests : List Test
 holes_tests = test law.Holes list.Types ∷ []
 
--- written types of all kinds are judged, and then those of later kinds refused
-abbrev pub type_tests : List Test
-type_tests = test law.Carried list.Types ∷ []
-
--- by law, then by list, and what written types are carried at last
+-- by law, then by list; what is not carried yet comes last, so that laws 1 to 9 speak of it too
 abbrev pub tests : List Test
 tests =
-    carried_tests ++ (ids_tests
-    ++ (counts_tests ++ (trees_tests
-    ++ (scopes_tests ++ (sizes_tests ++ (limits_tests ++ (lang_tests ++ (literals_tests ++ (holes_tests ++ type_tests)))))))))
+    ids_tests ++ (counts_tests
+    ++ (trees_tests ++ (scopes_tests
+    ++ (sizes_tests ++ (limits_tests ++ (lang_tests ++ (literals_tests ++ (holes_tests ++ carried_tests))))))))
 
 abbrev pub Passes : RawFacts → Test → Type 0
 Passes raw t = says (λ A P xs. AllHold P xs) raw t.law t.list

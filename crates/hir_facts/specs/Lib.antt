@@ -2,6 +2,7 @@ pub mod Entries
 pub mod Named
 pub mod Carried
 pub mod Projections
+pub mod Members
 pub mod GoalIds
 pub mod Ids
 pub mod Lowered

@@ -5,7 +5,7 @@ use Rattle.hir_facts.specs.Words.{TypeRefId, DefWithBodyId, RawType, RawField, R
 use Rattle.hir_types.specs.declared.ids.DefWithBodyId.TheVariants as def
 use Rattle.hir_facts.specs.Bodies.{inputs_by, inputs_of}
 use Rattle.hir_facts.specs.Standing.{HasNoHole}
-use Rattle.hir_facts.specs.Uses.{variant_uses, fn_uses, abstract_uses, item_uses}
+use Rattle.hir_facts.specs.Uses.{variant_uses, fn_uses, abstract_uses, item_uses, value_uses}
 use Rattle.hir_facts.specs.Lawful.{IsLawful}
 use Rattle.hir_facts.specs.LawfulFacts.{fn_ids, variant_ids, holes_fit}
 
@@ -50,7 +50,7 @@ pub item_has_no_hole : (raw : RawFacts) → IsLawful raw → (t : TypeRefId) →
 item_has_no_hole raw law t lt used = let there = type_there raw.types t.0 lt in
     elim (holes_fit raw law t.0 there.0 there.1) as (λ _. HasNoHole raw.types t) [
       | inl none ↦ none
-      | inr once ↦ absurd (once.items used.0 used.1)
+      | inr once ↦ (let among = in_first (item_uses raw) (value_uses raw) (Some t.0) used in absurd (once.items among.0 among.1))
     ]
 
 in_fn : (raw : RawFacts) (f : ℕ) (x : RawFn) (y : Option ℕ) → slice_get raw.fns f ≡ Some x → In (fn_uses x) y → In (item_uses raw) y

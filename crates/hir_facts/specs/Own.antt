@@ -2,21 +2,22 @@
 pub use Rattle.hir_facts.specs.Bodies.{HasBody, HasCarriedBody, IsTypedBefore, IsWalkable, body_id_of, body_of, inputs_by, inputs_of, output_by, return_type}
 pub use Rattle.hir_facts.specs.Carried.{has_carried_trait, is_carried_adt, is_carried_alias, is_carried_args, is_carried_binding, is_carried_body, is_carried_ctor, is_carried_expr, is_carried_fn, is_carried_goal, is_carried_impl, is_carried_kind, is_carried_lang, is_carried_pat, is_carried_stmt, is_carried_trait, is_carried_variant, is_carried_written_type, is_ctor_path, is_empty, is_in_module, is_type_param}
 pub use Rattle.hir_facts.specs.CarriedTypes.{AreCarriedArgs, AreCarriedTypes, IsCarriedType, carried_adt, carried_arg, carried_associated, carried_bare, carried_bool, carried_bound, carried_char, carried_error, carried_fn_def, carried_integer, carried_param, carried_step, carried_trait, carried_tuple, carried_type_arg, is_carried_arg, is_carried_type, same_carried, written_carried}
-pub use Rattle.hir_facts.specs.Counts.{AdtFits, AdtFitsBy, AliasFits, AliasFitsBy, AreFitting, ArgsFit, BodyFits, ConstFits, CountsFit, FnFits, FnFitsBy, GoalFits, GoalsFit, HasVariants, ImplFits, ImplFitsBy, ImplTraitFits, IsBare, MaybeBodyFits, MentionFits, TraitFits, TraitFitsBy, TypeFits, VariantFits, VariantFitsBy, body_at, count_of, param_count, trait_params}
+pub use Rattle.hir_facts.specs.Counts.{AdtFits, AdtFitsBy, AliasFits, AliasFitsBy, AreFitting, ArgsFit, BodyFits, ConstFits, ConstItemFits, CountsFit, FnFits, FnFitsBy, FnFitsUnder, GoalFits, GoalsFit, HasVariants, ImplFits, ImplFitsBy, ImplTraitFits, IsBare, MaybeBodyFits, MentionFits, StaticFits, TraitFits, TraitFitsBy, TypeFits, VariantFits, VariantFitsBy, body_at, count_of, param_count, trait_params}
 pub use Rattle.hir_facts.specs.Entries.{AllHold, BreaksAt}
 pub use Rattle.hir_facts.specs.Existing.{binder_exists, constructor_exists, constructor_pattern_exists, function_exists, tuple_struct_exists}
 pub use Rattle.hir_facts.specs.Fields.{NamesFit}
 pub use Rattle.hir_facts.specs.Filled.{filled_agree, filled_folded, filled_written, is_hole, none_stands}
-pub use Rattle.hir_facts.specs.GoalIds.{AliasIdsExist, AliasIdsHere, GoalExists, GoalsExist, ImplIdsExist, IsAliasOf, IsGivenIn, LangExists, TraitIdsExist, TraitRefExists, TypesExist, listed_aliases, trait_aliases}
-pub use Rattle.hir_facts.specs.Ids.{AdtIdsExist, AliasesExist, BodyIdsExist, ChildrenBefore, DynExists, Exists, FieldIdsExist, FnIdsExist, FormerExists, HasOneOwner, IsInModule, IsModuleFn, IsVariantOf, ItemExists, ParentBefore, PlaceExists, PrincipalExists, TraitsExist, TypeIdsExist, VariantIdsExist, VariantIdsHere, VisExists, adt_variants, listed_variants, owned_bodies, owned_body, variant_body}
+pub use Rattle.hir_facts.specs.GoalIds.{AliasIdsExist, AliasIdsHere, GoalExists, GoalsExist, ImplIdsExist, ImplIdsHere, IsAliasOf, IsGivenIn, LangExists, TraitIdsExist, TraitRefExists, TypesExist, listed_aliases, trait_aliases}
+pub use Rattle.hir_facts.specs.Ids.{AdtIdsExist, AliasesExist, BodyIdsExist, ChildrenBefore, DynExists, Exists, FieldIdsExist, ConstIdsExist, ConstIdsHere, FnIdsExist, FnIdsHere, FormerExists, HasOneOwner, IsModuleConst, IsModuleFn, IsVariantOf, ItemExists, ParentBefore, PlaceExists, PrincipalExists, StaticIdsExist, TraitsExist, TypeIdsExist, VariantIdsExist, VariantIdsHere, VisExists, adt_variants, listed_variants, owned_bodies, owned_body, variant_body}
 pub use Rattle.hir_facts.specs.Lang.{HasNoParams, LangFits}
-pub use Rattle.hir_facts.specs.Lawful.{FirstBroken, IsLawful, PassesAll, Test, abstract_tests, carried_tests, counts_tests, holes_tests, ids_tests, item_tests, lang_tests, limits_tests, literals_tests, says, scopes_tests, sizes_tests, tests, trees_tests, type_tests, unread_tests}
-pub use Rattle.hir_facts.specs.LawfulFacts.{adt_ids, bodies_small, bodies_well_formed, body_ids, carried_variants, counts_fit, fn_ids, fns_fit, holes_fit, literals_fit, scopes_hold, type_ids, type_ids_exist, types_carried, types_small, variant_ids, variants_carried, variants_fit}
+pub use Rattle.hir_facts.specs.Lawful.{FirstBroken, IsLawful, PassesAll, Test, abstract_tests, carried_tests, counts_tests, holes_tests, ids_tests, item_tests, lang_tests, limits_tests, literals_tests, says, scopes_tests, sizes_tests, tests, trees_tests, unread_tests}
+pub use Rattle.hir_facts.specs.LawfulFacts.{adt_ids, adts_fit, alias_ids, aliases_fit, bodies_small, bodies_well_formed, body_ids, carried_variants, counts_fit, fn_ids, fns_carried, fns_exist, fns_fit, fns_fit_there, holes_fit, impl_ids, impls_exist, impls_fit, limits_in_range, literals_fit, scopes_hold, trait_ids, traits_fit, type_ids, type_ids_exist, types_carried, types_small, variant_ids, variants_carried, variants_fit}
 pub use Rattle.hir_facts.specs.LetFits.{AllFit, FitsHere, masked_before, masked_fit, written_fit}
 pub use Rattle.hir_facts.specs.Limits.{IsInRange, limits_of, most_at}
 pub use Rattle.hir_facts.specs.Literals.{DotsFit, IsAnyLiteral, IsAssigned, IsEnd, IsInBits, IsLiteral, IsPatternOf, IsSignedInBits, LaterDotsFit, LiteralsFit, MayHaveMinus, and_digit, assigned_below, assigned_here, value_of, without_minus}
 pub use Rattle.hir_facts.specs.Lowered.{filled_parts, lowered_parts, opened_before}
 pub use Rattle.hir_facts.specs.Measures.{depth_in, measured_by, measured_in, measured_parts, one_level, size_in, with_consts}
+pub use Rattle.hir_facts.specs.Members.{AreConstsAt, AreFnsAt, GiveOnce, IsConstAt, IsFnAt, IsInModule, IsListed, IsOfImpl, IsOfTrait, impl_of, listed_consts, listed_fns}
 pub use Rattle.hir_facts.specs.Most.{most_above, most_by_same, most_parts, most_within_step, own_most, part_most}
 pub use Rattle.hir_facts.specs.Named.{IsNamedAt, NamedOnce}
 pub use Rattle.hir_facts.specs.Names.{law_number, list_number}

@@ -1,6 +1,6 @@
 -- Where written types are used, and what becomes of a `_`.
 use Rattle.std.specs.Prelude.{ℕ, ◌≡◌, ◌⊎◌, ◌++◌, List, [], ◌∷◌, map, Option, Some, None, flat_map}
-use Rattle.hir_facts.specs.Words.{RawType, RawVariant, RawFn, Mention, RawBody, RawFacts, RawTraitRef, RawGoal, RawImpl, arg_types, type_parts, body_said}
+use Rattle.hir_facts.specs.Words.{RawType, RawVariant, RawFn, RawConstItem, RawStatic, Mention, RawBody, RawFacts, RawTraitRef, RawGoal, RawImpl, arg_types, type_parts, body_said}
 use Rattle.hir_raw.specs.declared.mention.Mention.TheVariants as it
 use Rattle.hir_raw.specs.declared.raw.RawGoal.TheVariants as goal
 use Rattle.hir_facts.specs.Named.{NamedOnce, IsUnnamed}
@@ -59,12 +59,23 @@ abstract_uses raw =
 abbrev pub item_uses : RawFacts → List (Option ℕ)
 item_uses raw = flat_map variant_uses raw.variants ++ (flat_map fn_uses raw.fns ++ abstract_uses raw)
 
+-- ---- by constants and statics
+
+abbrev pub const_use : RawConstItem → Option ℕ
+const_use c = Some c.type_.0
+
+abbrev pub static_use : RawStatic → Option ℕ
+static_use s = Some s.type_.0
+
+abbrev pub value_uses : RawFacts → List (Option ℕ)
+value_uses raw = map const_use raw.consts ++ map static_use raw.statics
+
 -- ---- holes
 
 -- type i is used once, by another type or in a body, and by no item
 pub record IsUsedOnce (raw : RawFacts) (i : ℕ) : Type 0 where
   pub inner : NamedOnce (inner_uses raw) i
-  pub items : IsUnnamed (item_uses raw) i
+  pub items : IsUnnamed (item_uses raw ++ value_uses raw) i
 
 -- so is each type in which a `_` stands
 abbrev pub HoleFits : RawFacts → ℕ → Type 0

@@ -47,6 +47,7 @@ pub use Rattle.hir_raw.specs.declared.raw.RawAssocType.{RawAssocType}
 pub use Rattle.hir_raw.specs.declared.raw.RawAt.{RawAt}
 pub use Rattle.hir_raw.specs.declared.raw.RawBinding.{RawBinding}
 pub use Rattle.hir_raw.specs.declared.raw.RawBody.{RawBody}
+pub use Rattle.hir_raw.specs.declared.raw.RawConstItem.{RawConstItem}
 pub use Rattle.hir_raw.specs.declared.raw.RawCtor.{RawCtor}
 pub use Rattle.hir_raw.specs.declared.raw.RawExpr.{RawExpr}
 pub use Rattle.hir_raw.specs.declared.raw.RawFacts.{RawFacts}
@@ -60,6 +61,7 @@ pub use Rattle.hir_raw.specs.declared.raw.RawLiteral.{RawLiteral}
 pub use Rattle.hir_raw.specs.declared.raw.RawParam.{RawParam}
 pub use Rattle.hir_raw.specs.declared.raw.RawPat.{RawPat}
 pub use Rattle.hir_raw.specs.declared.raw.RawPath.{RawPath}
+pub use Rattle.hir_raw.specs.declared.raw.RawStatic.{RawStatic}
 pub use Rattle.hir_raw.specs.declared.raw.RawStmt.{RawStmt}
 pub use Rattle.hir_raw.specs.declared.raw.RawTrait.{RawTrait}
 pub use Rattle.hir_raw.specs.declared.raw.RawTraitRef.{RawTraitRef}

@@ -7,4 +7,6 @@ pub mod Telling
 pub mod InBodies
 pub mod Owners
 pub mod Held
+pub mod Listed
+pub mod Given
 pub mod Words

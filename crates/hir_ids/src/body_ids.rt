@@ -1,64 +1,63 @@
 //! The ids of a body are in range.
-ghost use Rattle.std.specs.Prelude.{◌≡◌, ◌↔◌, ◌<◌, ◌++◌, ℕ, Some, slice_get, map, IsTrue, IfOk, OnOk};
-ghost use Rattle.hir_ids.specs.Words.{TraitId, IsInBody, expr_parts, pat_parts, body_parts, nodes, binding_of, body_said, AllInBody, AllHold, IsInModule, IsModuleFn, Exists, owned_body, variant_body, owned_bodies, BodyIdsExist};
+ghost use Rattle.std.specs.Prelude.{◌≡◌, ◌↔◌, ◌<◌, ℕ, Some, slice_get, IsTrue, IfOk};
+ghost use Rattle.hir_ids.specs.Words.{TraitId, IsInBody, expr_parts, pat_parts, body_parts, nodes, binding_of, body_said, AllInBody, AllHold, BodyIdsExist};
+ghost use Rattle.hir_ids.specs.Words.hir_facts.Ids.{ExistsIn, owner_impls};
 ghost use Rattle.hir_ids.specs.Own.{BodyIdsHere, AreOwners};
 
+use crate::members::{is_module_const, is_module_fn};
 use crate::namers::{Namers, is_one, namers_of};
+use crate::owners::{home_of, owned_bodies, owner_impls};
 use crate::saying::said_of_body;
 use crate::test::Test;
-use hir_raw::{Mention, RawAt, RawBody, RawExpr, RawFacts, RawFn, RawPat, RawVariant, Said};
+use hir_raw::{Mention, RawBody, RawExpr, RawFacts, RawPat, Said};
 use hir_schedule::{nodes_of_body, nodes_of_expr, nodes_of_pat};
-use hir_types::{BindingId, ExprOrPatId, FunctionId, TraitId};
+use hir_types::{BindingId, ExprOrPatId, ImplId, TraitId};
 use std::alloc::{AllocError, Global};
 
-fn is_in_module(at: &RawAt) -> bool
-    ensures { IsTrue result ↔ IsInModule at.now }
+fn is_home(home: Option<usize>, item: ImplId) -> bool
+    ensures { IsTrue result ↔ (home ≡ Some item.0) }
 {
-    match at {
-        RawAt::Module(_) => true,
-        RawAt::Other => false,
-    }
-}
-
-fn is_module_fn(raw: &RawFacts, function: FunctionId) -> bool
-    ensures { IsTrue result ↔ IsModuleFn raw.now function }
-{
-    match raw.fns.get(function.0 as usize) {
+    match home {
         None => false,
-        Some(function) => is_in_module(&function.at),
+        Some(home) => home == item.0 as usize,
     }
 }
 
-fn exists(raw: &RawFacts, body: &RawBody, mention: Mention) -> bool
-    ensures { IsTrue result ↔ Exists raw.now body.now mention }
+fn exists(raw: &RawFacts, home: Option<usize>, body: &RawBody, mention: Mention) -> bool
+    ensures { IsTrue result ↔ ExistsIn (λ p. home ≡ Some p) raw.now body.now mention }
 {
     match mention {
         Mention::Type(t) => (t.0 as usize) < raw.types.len(),
         Mention::Local(v) | Mention::Binds(v) => (v.0 as usize) < body.bindings.len(),
         Mention::Function(function) => is_module_fn(raw, function),
         Mention::Variant(variant) => (variant.0 as usize) < raw.variants.len(),
-        Mention::ConstItem(item) => (item.0 as usize) < raw.consts.len(),
+        Mention::ConstItem(item) => is_module_const(raw, item),
         Mention::Static(item) => (item.0 as usize) < raw.statics.len(),
         Mention::Trait(item) => (item.0 as usize) < raw.traits.len(),
-        Mention::SelfOf(_) => false,
+        Mention::SelfOf(item) => is_home(home, item),
         Mention::ConstParam(_) | Mention::Const(_) => true,
         Mention::Label(_, label) => label.0 < body.labels,
         Mention::List(_) => true,
     }
 }
 
-fn exist(raw: &RawFacts, body: &RawBody, said: &[Said]) -> bool
-    ensures { IsTrue result ↔ AllHold (λ k s. Exists raw.now body.now s.mention) said.now }
+fn exist(raw: &RawFacts, home: Option<usize>, body: &RawBody, said: &[Said]) -> bool
+    ensures { IsTrue result ↔ AllHold (λ k s. ExistsIn (λ p. home ≡ Some p) raw.now body.now s.mention) said.now }
 {
-    said.iter().all(|s| exists(raw, body, s.mention))
+    said.iter().all(|s| exists(raw, home, body, s.mention))
 }
 
-fn all_exist(alloc: Global, raw: &RawFacts, body: &RawBody) -> Result<bool, AllocError>
+fn all_exist(
+    alloc: Global,
+    raw: &RawFacts,
+    home: Option<usize>,
+    body: &RawBody,
+) -> Result<bool, AllocError>
     ensures { IfOk result (λ yes. IsTrue yes
-        ↔ AllHold (λ k s. Exists raw.now body.now s.mention) (body_said body.now)) }
+        ↔ AllHold (λ k s. ExistsIn (λ p. home ≡ Some p) raw.now body.now s.mention) (body_said body.now)) }
 {
     let said = said_of_body(alloc, body)?;
-    Ok(exist(raw, body, &said))
+    Ok(exist(raw, home, body, &said))
 }
 
 fn is_in_body(body: &RawBody, node: ExprOrPatId) -> bool
@@ -127,13 +126,18 @@ fn has_own_parts(alloc: Global, body: &RawBody) -> Result<bool, AllocError>
     Ok(are_in_body(body, &nodes))
 }
 
-fn has_ids(alloc: Global, raw: &RawFacts, body: &RawBody) -> Result<bool, AllocError>
-    ensures { IfOk result (λ yes. IsTrue yes ↔ BodyIdsHere raw.now body.now) }
+fn has_ids(
+    alloc: Global,
+    raw: &RawFacts,
+    home: Option<usize>,
+    body: &RawBody,
+) -> Result<bool, AllocError>
+    ensures { IfOk result (λ yes. IsTrue yes ↔ BodyIdsHere raw.now home body.now) }
 {
     let own = has_own_parts(alloc, body)?;
     let exprs = have_expr_parts(alloc, body, body.exprs.as_slice())?;
     let pats = have_pat_parts(alloc, body, body.pats.as_slice())?;
-    let named = all_exist(alloc, raw, body)?;
+    let named = all_exist(alloc, raw, home, body)?;
     Ok(
         (body.module.0 as usize) < raw.modules.len()
             && have_traits(body.traits.as_slice(), raw.traits.len())
@@ -144,66 +148,23 @@ fn has_ids(alloc: Global, raw: &RawFacts, body: &RawBody) -> Result<bool, AllocE
     )
 }
 
-fn owned_body(function: &RawFn) -> Option<usize>
-    ensures { result ≡ owned_body function.now }
-{
-    match function.body {
-        None => None,
-        Some(body) => Some(body.0 as usize),
-    }
-}
-
-fn fn_bodies(alloc: Global, fns: &[RawFn]) -> Result<Vec<Option<usize>>, AllocError>
-    ensures { IfOk result (λ v. v.items ≡ map owned_body fns.now) }
-{
-    fns.iter()
-        .map(|function| owned_body(function))
-        .collect(alloc)
-}
-
-fn variant_body(variant: &RawVariant) -> Option<usize>
-    ensures { result ≡ variant_body variant.now }
-{
-    match variant.body {
-        None => None,
-        Some(body) => Some(body.0 as usize),
-    }
-}
-
-fn push_variant_bodies(
-    out: &mut Vec<Option<usize>>,
-    variants: &[RawVariant],
-) -> Result<(), AllocError>
-    ensures { OnOk result (out.new.items ≡ out.old.items ++ map variant_body variants.now) }
-{
-    for variant in variants {
-        out.push(variant_body(variant))?;
-    }
-    Ok(())
-}
-
-fn owned_bodies(alloc: Global, raw: &RawFacts) -> Result<Vec<Option<usize>>, AllocError>
-    ensures { IfOk result (λ v. v.items ≡ owned_bodies raw.now) }
-{
-    let mut owned = fn_bodies(alloc, raw.fns.as_slice())?;
-    push_variant_bodies(&mut owned, raw.variants.as_slice())?;
-    Ok(owned)
-}
-
 /// The ids of a body are in range, and it is the body of exactly one definition.
 #[derive(Drop)]
 pub struct BodyIds {
     owners: Vec<Namers>,
+    impls: Vec<Option<usize>>,
 }
 
 impl BodyIds {
-    /// Finds out which definitions each body is that of.
+    /// Finds out which definitions each body is that of, and the impls in which these stand.
     pub fn new(alloc: Global, raw: &RawFacts) -> Result<BodyIds, AllocError>
-        ensures { IfOk result (λ it. AreOwners raw.now it.owners.items) }
+        ensures owners { IfOk result (λ it. AreOwners raw.now it.owners.items) }
+        ensures impls { IfOk result (λ it. it.impls.items ≡ owner_impls raw.now) }
     {
         let owned = owned_bodies(alloc, raw)?;
         let owners = namers_of(alloc, &owned, raw.bodies.len())?;
-        Ok(BodyIds { owners })
+        let impls = owner_impls(alloc, raw)?;
+        Ok(BodyIds { owners, impls })
     }
 }
 
@@ -214,7 +175,7 @@ impl Test for BodyIds {
 
     ghost holds = { BodyIdsExist };
 
-    ghost given = { λ raw s. AreOwners raw s.owners.items };
+    ghost given = { λ raw s. AreOwners raw s.owners.items × (s.impls.items ≡ owner_impls raw) };
 
     fn test(
         &self,
@@ -223,7 +184,9 @@ impl Test for BodyIds {
         at: usize,
         item: &RawBody,
     ) -> Result<bool, AllocError> {
-        let here = has_ids(alloc, raw, item)?;
-        Ok(is_one(self.owners[at]) && here)
+        let owners = self.owners[at];
+        let home = home_of(&self.impls, owners);
+        let here = has_ids(alloc, raw, home, item)?;
+        Ok(is_one(owners) && here)
     }
 }

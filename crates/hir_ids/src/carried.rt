@@ -28,7 +28,8 @@ fn carries_type(ty: &RawType) -> bool
     }
 }
 
-fn is_type_param(param: &RawParam) -> bool
+/// Whether a parameter stands for a type.
+pub fn is_type_param(param: &RawParam) -> bool
     ensures { result ≡ is_type_param param.now }
 {
     match param {

@@ -1,9 +1,13 @@
 //! The ids in goals, traits, associated types and impls are in range, and traits and associated types agree.
-ghost use Rattle.std.specs.Prelude.{◌≡◌, ◌↔◌, ◌++◌, ℕ, Some, slice_get, map, IsTrue, IfOk, IfSome, OnOk};
+ghost use Rattle.std.specs.Prelude.{◌≡◌, ◌↔◌, ◌++◌, ℕ, Some, length, slice_get, map, IsTrue, IfOk, IfSome, OnOk};
 ghost use Rattle.hir_ids.specs.Words.{TypeAliasId, RawAssocType, TraitRefExists, GoalExists, GoalsExist, IsAliasOf, TraitIdsExist, AliasIdsHere, AliasIdsExist, IsGivenIn, ImplIdsExist, LangExists, listed_aliases};
+ghost use Rattle.hir_ids.specs.Words.hir_facts.GoalIds.{ImplIdsHere};
+ghost use Rattle.hir_ids.specs.Members.{AreOnceMarks};
 ghost use Rattle.hir_ids.specs.Own.{AreAliasListers};
 
+use crate::given::once_marks;
 use crate::ids::are_below;
+use crate::members::{are_impl_consts, are_impl_fns, are_trait_consts, are_trait_fns};
 use crate::namers::{Namers, is_one, namers_of};
 use crate::test::Test;
 use hir_raw::{RawAlias, RawAssocType, RawFacts, RawGoal, RawImpl, RawLang, RawTrait, RawTraitRef};
@@ -52,7 +56,7 @@ fn are_aliases_of(raw: &RawFacts, at: usize, aliases: &[TypeAliasId]) -> bool
     aliases.iter().all(|alias| is_alias_of(raw, at, *alias))
 }
 
-/// What a trait names exists, and its associated types say that they are its.
+/// What a trait names exists, and what it lists says that it is its.
 pub struct TraitIds;
 
 impl Test for TraitIds {
@@ -73,7 +77,9 @@ impl Test for TraitIds {
     ) -> Result<bool, AllocError> {
         Ok(
             have_goal_ids(raw, item.preds.as_slice())
-                && are_aliases_of(raw, at, item.types.as_slice()),
+                && are_aliases_of(raw, at, item.types.as_slice())
+                && are_trait_fns(raw, at, item.fns.as_slice())
+                && are_trait_consts(raw, at, item.consts.as_slice()),
         )
     }
 }
@@ -169,31 +175,52 @@ fn are_given_in(raw: &RawFacts, trait_ref: &Option<RawTraitRef>, types: &[RawAss
         .all(|given| is_given_in(raw, trait_ref, *given))
 }
 
-/// What an impl names exists, and it gives types to associated types of its trait alone.
-pub struct ImplIds;
+fn has_impl_ids(raw: &RawFacts, item: &RawImpl) -> bool
+    ensures { IsTrue result ↔ ImplIdsHere raw.now item.now }
+{
+    has_maybe_trait_ids(raw, &item.trait_)
+        && have_goal_ids(raw, item.preds.as_slice())
+        && (item.self_.0 as usize) < raw.types.len()
+        && are_given_in(raw, &item.trait_, item.types.as_slice())
+}
+
+/// What an impl names exists, what it lists says that it is its, and it gives types to associated types
+/// of its trait alone, to each once.
+#[derive(Drop)]
+pub struct ImplIds {
+    once: Vec<bool>,
+}
+
+impl ImplIds {
+    /// Finds out which impls give each associated type once.
+    pub fn new(alloc: Global, raw: &RawFacts) -> Result<ImplIds, AllocError>
+        ensures { IfOk result (λ it. AreOnceMarks (length raw.now.aliases) raw.now.impls (length raw.now.impls) it.once.items) }
+    {
+        let once = once_marks(alloc, raw)?;
+        Ok(ImplIds { once })
+    }
+}
 
 impl Test for ImplIds {
     type Item = RawImpl;
 
     ghost listed = { λ raw. raw.impls };
 
-    ghost holds = { λ raw i p. ImplIdsExist raw p };
+    ghost holds = { ImplIdsExist };
 
-    ghost given = { λ raw s. Unit {0} };
+    ghost given = { λ raw s. AreOnceMarks (length raw.aliases) raw.impls (length raw.impls) s.once.items };
 
     fn test(
         &self,
         _alloc: Global,
         raw: &RawFacts,
-        _at: usize,
+        at: usize,
         item: &RawImpl,
     ) -> Result<bool, AllocError> {
-        Ok(
-            has_maybe_trait_ids(raw, &item.trait_)
-                && have_goal_ids(raw, item.preds.as_slice())
-                && (item.self_.0 as usize) < raw.types.len()
-                && are_given_in(raw, &item.trait_, item.types.as_slice()),
-        )
+        let fns = are_impl_fns(raw, at, item.fns.as_slice());
+        let consts = are_impl_consts(raw, at, item.consts.as_slice());
+        let here = has_impl_ids(raw, item);
+        Ok(self.once[at] && here && fns && consts)
     }
 }
 

@@ -1,11 +1,17 @@
 //! Ids are in range, and smaller where a list asks for it; each body is that of one definition.
-ghost use Rattle.std.specs.Prelude.{◌≡◌, ◌↔◌, ◌<◌, ℕ, Some, None, slice_get, length, IsTrue, IfSome};
-ghost use Rattle.hir_ids.specs.Words.{TypeRefId, ChildrenBefore, PrincipalExists, TraitsExist, AliasesExist, DynExists, FormerExists, ItemExists, TypeIdsExist, ParentBefore, PlaceExists, VisExists, FnIdsExist};
+ghost use Rattle.std.specs.Prelude.{◌≡◌, ◌↔◌, ◌<◌, ℕ, Some, None, slice_get, length, IsTrue, IfOk, IfSome};
+ghost use Rattle.hir_ids.specs.Words.{BodyId, TypeRefId, ChildrenBefore, PrincipalExists, TraitsExist, AliasesExist, DynExists, FormerExists, ItemExists, TypeIdsExist, ParentBefore, PlaceExists, VisExists, FnIdsExist};
+ghost use Rattle.hir_ids.specs.Words.hir_facts.Ids.{FnIdsHere, ConstIdsHere, ConstIdsExist, StaticIdsExist};
+ghost use Rattle.hir_ids.specs.Members.{AreFnListers, AreConstListers};
 
 use crate::goal_ids::have_goal_ids;
+use crate::members::{is_listed, listed_consts, listed_fns};
+use crate::namers::{Namers, namers_of};
 use crate::test::Test;
-use hir_raw::{Former, RawAt, RawFacts, RawFn, RawPrincipal, RawType, RawVis};
-use hir_types::{List, ModuleId, TraitId, TypeAliasId, TypeRefId};
+use hir_raw::{
+    Former, RawAt, RawConstItem, RawFacts, RawFn, RawPrincipal, RawStatic, RawType, RawVis,
+};
+use hir_types::{BodyId, List, ModuleId, TraitId, TypeAliasId, TypeRefId};
 use std::alloc::{AllocError, Global};
 
 pub fn are_below(types: &[TypeRefId], bound: usize) -> bool
@@ -110,7 +116,8 @@ fn has_place(raw: &RawFacts, at: &RawAt) -> bool
 {
     match at {
         RawAt::Module(module) => (module.0 as usize) < raw.modules.len(),
-        RawAt::Other => true,
+        RawAt::Impl(item) => (item.0 as usize) < raw.impls.len(),
+        RawAt::Trait(item) => (item.0 as usize) < raw.traits.len(),
     }
 }
 
@@ -123,24 +130,33 @@ pub fn has_vis(raw: &RawFacts, vis: &RawVis) -> bool
     }
 }
 
-fn has_body(raw: &RawFacts, function: &RawFn) -> bool
-    ensures { IsTrue result ↔ IfSome function.now.body (λ b. b.0 < length raw.now.bodies) }
+fn has_body(raw: &RawFacts, body: Option<BodyId>) -> bool
+    ensures { IsTrue result ↔ IfSome body (λ b. b.0 < length raw.now.bodies) }
 {
-    match function.body {
+    match body {
         None => true,
         Some(body) => (body.0 as usize) < raw.bodies.len(),
     }
 }
 
 fn has_fn_ids(raw: &RawFacts, function: &RawFn) -> bool
-    ensures { IsTrue result ↔ FnIdsExist raw.now function.now }
+    ensures { IsTrue result ↔ FnIdsHere raw.now function.now }
 {
     has_place(raw, &function.at)
         && have_goal_ids(raw, function.preds.as_slice())
         && are_below(function.inputs.as_slice(), raw.types.len())
         && (function.output.0 as usize) < raw.types.len()
         && has_vis(raw, &function.vis)
-        && has_body(raw, function)
+        && has_body(raw, function.body)
+}
+
+fn has_const_ids(raw: &RawFacts, item: &RawConstItem) -> bool
+    ensures { IsTrue result ↔ ConstIdsHere raw.now item.now }
+{
+    has_place(raw, &item.at)
+        && (item.type_.0 as usize) < raw.types.len()
+        && has_vis(raw, &item.vis)
+        && has_body(raw, item.body)
 }
 
 /// The parts of a written type come before it, and what it names beside them exists.
@@ -189,15 +205,91 @@ impl Test for ModuleIds {
     }
 }
 
-/// The ids of a function are in range.
-pub struct FnIds;
+/// The ids of a function are in range, and the trait or impl in which it stands lists it, once.
+#[derive(Drop)]
+pub struct FnIds {
+    listers: Vec<Namers>,
+}
+
+impl FnIds {
+    /// Finds out which traits and impls list each function.
+    pub fn new(alloc: Global, raw: &RawFacts) -> Result<FnIds, AllocError>
+        ensures { IfOk result (λ it. AreFnListers raw.now it.listers.items) }
+    {
+        let listed = listed_fns(alloc, raw)?;
+        let listers = namers_of(alloc, &listed, raw.fns.len())?;
+        Ok(FnIds { listers })
+    }
+}
 
 impl Test for FnIds {
     type Item = RawFn;
 
     ghost listed = { λ raw. raw.fns };
 
-    ghost holds = { λ raw i f. FnIdsExist raw f };
+    ghost holds = { FnIdsExist };
+
+    ghost given = { λ raw s. AreFnListers raw s.listers.items };
+
+    fn test(
+        &self,
+        _alloc: Global,
+        raw: &RawFacts,
+        at: usize,
+        item: &RawFn,
+    ) -> Result<bool, AllocError> {
+        let listed = is_listed(self.listers[at], &item.at);
+        Ok(listed && has_fn_ids(raw, item))
+    }
+}
+
+/// The ids of a constant are in range, and the trait or impl in which it stands lists it, once.
+#[derive(Drop)]
+pub struct ConstIds {
+    listers: Vec<Namers>,
+}
+
+impl ConstIds {
+    /// Finds out which traits and impls list each constant.
+    pub fn new(alloc: Global, raw: &RawFacts) -> Result<ConstIds, AllocError>
+        ensures { IfOk result (λ it. AreConstListers raw.now it.listers.items) }
+    {
+        let listed = listed_consts(alloc, raw)?;
+        let listers = namers_of(alloc, &listed, raw.consts.len())?;
+        Ok(ConstIds { listers })
+    }
+}
+
+impl Test for ConstIds {
+    type Item = RawConstItem;
+
+    ghost listed = { λ raw. raw.consts };
+
+    ghost holds = { ConstIdsExist };
+
+    ghost given = { λ raw s. AreConstListers raw s.listers.items };
+
+    fn test(
+        &self,
+        _alloc: Global,
+        raw: &RawFacts,
+        at: usize,
+        item: &RawConstItem,
+    ) -> Result<bool, AllocError> {
+        let listed = is_listed(self.listers[at], &item.at);
+        Ok(listed && has_const_ids(raw, item))
+    }
+}
+
+/// The ids of a static are in range.
+pub struct StaticIds;
+
+impl Test for StaticIds {
+    type Item = RawStatic;
+
+    ghost listed = { λ raw. raw.statics };
+
+    ghost holds = { λ raw i s. StaticIdsExist raw s };
 
     ghost given = { λ raw s. Unit {0} };
 
@@ -206,8 +298,8 @@ impl Test for FnIds {
         _alloc: Global,
         raw: &RawFacts,
         _at: usize,
-        item: &RawFn,
+        item: &RawStatic,
     ) -> Result<bool, AllocError> {
-        Ok(has_fn_ids(raw, item))
+        Ok((item.type_.0 as usize) < raw.types.len() && has_body(raw, item.body))
     }
 }

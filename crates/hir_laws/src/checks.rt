@@ -1,6 +1,6 @@
 //! The tests of the laws, in their order.
 ghost use Rattle.std.specs.Prelude.{◌≡◌, IfOk, IfErr, MatchOption, Ok, Err};
-ghost use Rattle.hir_laws.specs.Words.{AllHold, TypeIdsExist, BodyIdsExist, AreSchedules, IsLawful, PassesAll, item_tests, unread_tests, abstract_tests, carried_tests, ids_tests, counts_tests, trees_tests, scopes_tests, sizes_tests, limits_tests, lang_tests, literals_tests, holes_tests, type_tests, tests};
+ghost use Rattle.hir_laws.specs.Words.{AllHold, TypeIdsExist, BodyIdsExist, AreSchedules, IsLawful, PassesAll, item_tests, unread_tests, abstract_tests, carried_tests, ids_tests, counts_tests, trees_tests, scopes_tests, sizes_tests, limits_tests, lang_tests, literals_tests, holes_tests, tests};
 ghost use Rattle.hir_laws.specs.Own.{Refuses};
 
 use crate::body_sizes::BodySizes;
@@ -12,15 +12,15 @@ use crate::literals::LiteralsInBits;
 use crate::scopes::{Scopes, schedules_of};
 use crate::trees::Trees;
 use hir_counts::{
-    AdtCounts, AdtSizes, AliasCounts, AliasSizes, FnCounts, FnSizes, Holes, ImplCounts, ImplSizes,
-    LangEarly, ModulesEarly, Standing, TraitCounts, TraitSizes, TypeCounts, TypeSizes,
-    VariantCounts, VariantSizes,
+    AdtCounts, AdtSizes, AliasCounts, AliasSizes, ConstCounts, ConstsEarly, FnCounts, FnSizes,
+    Holes, ImplCounts, ImplSizes, LangEarly, ModulesEarly, Standing, StaticCounts, StaticsEarly,
+    TraitCounts, TraitSizes, TypeCounts, TypeSizes, VariantCounts, VariantSizes,
 };
 use hir_facts::{FactsList, Law};
 use hir_ids::{
-    AdtIds, AdtsCarried, AliasIds, AliasesCarried, BodyIds, FnIds, FnsCarried, ImplIds,
-    ImplsCarried, LangCarried, LangIds, ModuleIds, ProjectionMarks, TraitIds, TraitsCarried,
-    TypeIds, TypesCarried, VariantIds, VariantsCarried, first_broken, first_other,
+    AdtIds, AdtsCarried, AliasIds, AliasesCarried, BodyIds, ConstIds, FnIds, FnsCarried, ImplIds,
+    ImplsCarried, LangCarried, LangIds, ModuleIds, ProjectionMarks, StaticIds, TraitIds,
+    TraitsCarried, TypeIds, TypesCarried, VariantIds, VariantsCarried, first_broken, first_other,
 };
 use hir_raw::{RawFacts, Schedule};
 use hir_types::List;
@@ -39,6 +39,8 @@ fn check_items(alloc: Global, raw: &RawFacts) -> Result<(), FactsError>
     ensures ok { IfOk result (λ _. PassesAll raw.now item_tests) }
     ensures err { IfErr result (λ e. Refuses raw.now item_tests e) }
 {
+    let types = first_broken(alloc, &TypesCarried, raw, raw.types.as_slice())?;
+    allow(Law::Carried, FactsList::Types, types)?;
     let adts = first_broken(alloc, &AdtsCarried, raw, raw.adts.as_slice())?;
     allow(Law::Carried, FactsList::Adts, adts)?;
     let found = ProjectionMarks::new(alloc, raw)?;
@@ -101,14 +103,21 @@ fn check_ids(alloc: Global, raw: &RawFacts) -> Result<(), FactsError>
     let variant_ids = VariantIds::new(alloc, raw)?;
     let variants = first_broken(alloc, &variant_ids, raw, raw.variants.as_slice())?;
     allow(Law::Ids, FactsList::Variants, variants)?;
-    let fns = first_broken(alloc, &FnIds, raw, raw.fns.as_slice())?;
+    let fn_ids = FnIds::new(alloc, raw)?;
+    let fns = first_broken(alloc, &fn_ids, raw, raw.fns.as_slice())?;
     allow(Law::Ids, FactsList::Fns, fns)?;
+    let const_ids = ConstIds::new(alloc, raw)?;
+    let consts = first_broken(alloc, &const_ids, raw, raw.consts.as_slice())?;
+    allow(Law::Ids, FactsList::Consts, consts)?;
+    let statics = first_broken(alloc, &StaticIds, raw, raw.statics.as_slice())?;
+    allow(Law::Ids, FactsList::Statics, statics)?;
     let traits = first_broken(alloc, &TraitIds, raw, raw.traits.as_slice())?;
     allow(Law::Ids, FactsList::Traits, traits)?;
     let alias_ids = AliasIds::new(alloc, raw)?;
     let aliases = first_broken(alloc, &alias_ids, raw, raw.aliases.as_slice())?;
     allow(Law::Ids, FactsList::Aliases, aliases)?;
-    let impls = first_broken(alloc, &ImplIds, raw, raw.impls.as_slice())?;
+    let impl_ids = ImplIds::new(alloc, raw)?;
+    let impls = first_broken(alloc, &impl_ids, raw, raw.impls.as_slice())?;
     allow(Law::Ids, FactsList::Impls, impls)?;
     let lang = first_broken(alloc, &LangIds, raw, raw.lang.as_slice())?;
     allow(Law::Ids, FactsList::Lang, lang)?;
@@ -141,6 +150,16 @@ fn check_counts(alloc: Global, raw: &RawFacts) -> Result<(), FactsError>
     };
     let fns = first_broken(alloc, &fn_counts, raw, raw.fns.as_slice())?;
     allow(Law::Counts, FactsList::Fns, fns)?;
+    let const_counts = ConstCounts {
+        standing: &standing,
+    };
+    let consts = first_broken(alloc, &const_counts, raw, raw.consts.as_slice())?;
+    allow(Law::Counts, FactsList::Consts, consts)?;
+    let static_counts = StaticCounts {
+        standing: &standing,
+    };
+    let statics = first_broken(alloc, &static_counts, raw, raw.statics.as_slice())?;
+    allow(Law::Counts, FactsList::Statics, statics)?;
     let trait_counts = TraitCounts {
         standing: &standing,
     };
@@ -198,6 +217,10 @@ fn check_sizes(alloc: Global, raw: &RawFacts, schedules: &List<Schedule>) -> Res
     allow(Law::Sizes, FactsList::Variants, variants)?;
     let fns = first_broken(alloc, &FnSizes, raw, raw.fns.as_slice())?;
     allow(Law::Sizes, FactsList::Fns, fns)?;
+    let consts = first_broken(alloc, &ConstsEarly, raw, raw.consts.as_slice())?;
+    allow(Law::Sizes, FactsList::Consts, consts)?;
+    let statics = first_broken(alloc, &StaticsEarly, raw, raw.statics.as_slice())?;
+    allow(Law::Sizes, FactsList::Statics, statics)?;
     let traits = first_broken(alloc, &TraitSizes, raw, raw.traits.as_slice())?;
     allow(Law::Sizes, FactsList::Traits, traits)?;
     let aliases = first_broken(alloc, &AliasSizes, raw, raw.aliases.as_slice())?;
@@ -264,22 +287,12 @@ fn check_holes(alloc: Global, raw: &RawFacts) -> Result<(), FactsError>
     Ok(())
 }
 
-fn check_types(alloc: Global, raw: &RawFacts) -> Result<(), FactsError>
-    ensures ok { IfOk result (λ _. PassesAll raw.now type_tests) }
-    ensures err { IfErr result (λ e. Refuses raw.now type_tests e) }
-{
-    let types = first_broken(alloc, &TypesCarried, raw, raw.types.as_slice())?;
-    allow(Law::Carried, FactsList::Types, types)?;
-    Ok(())
-}
-
 /// Finds the first law that is broken, or the numbers of the bodies.
 pub fn check(alloc: Global, raw: &RawFacts) -> Result<List<Schedule>, FactsError>
     ensures lawful { IfOk result (λ _. IsLawful raw.now) }
     ensures schedules { IfOk result (λ schedules. AreSchedules raw.now.bodies schedules) }
     ensures broken { IfErr result (λ e. Refuses raw.now tests e) }
 {
-    check_carried(alloc, raw)?;
     check_ids(alloc, raw)?;
     check_counts(alloc, raw)?;
     check_trees(alloc, raw)?;
@@ -290,6 +303,6 @@ pub fn check(alloc: Global, raw: &RawFacts) -> Result<List<Schedule>, FactsError
     check_lang(alloc, raw)?;
     check_literals(alloc, raw, &schedules)?;
     check_holes(alloc, raw)?;
-    check_types(alloc, raw)?;
+    check_carried(alloc, raw)?;
     Ok(schedules)
 }

@@ -23,9 +23,9 @@ pub use lets::{let_aliases, stmts_of};
 pub use mention::{LabelRole, Mention, Said};
 pub use raw::{
     BindingAnnotation, Edition, HasGoals, Other, RawAdt, RawAdtKind, RawAlias, RawArgs, RawArm,
-    RawAssocType, RawAt, RawBinding, RawBody, RawCtor, RawExpr, RawFacts, RawField, RawFn, RawGoal,
-    RawImpl, RawLang, RawLimits, RawLiteral, RawParam, RawPat, RawPath, RawStmt, RawTrait,
-    RawTraitRef, RawType, RawVariant, RawVis,
+    RawAssocType, RawAt, RawBinding, RawBody, RawConstItem, RawCtor, RawExpr, RawFacts, RawField,
+    RawFn, RawGoal, RawImpl, RawLang, RawLimits, RawLiteral, RawParam, RawPat, RawPath, RawStatic,
+    RawStmt, RawTrait, RawTraitRef, RawType, RawVariant, RawVis,
 };
 pub use schedule::{Schedule, position_of};
 pub use scope::{alias_params, generic_params, has_associated, has_params, some_sized};

@@ -9,8 +9,8 @@ ghost use Rattle.hir_raw.specs.Hidden.{is_alias};
 use crate::later::{LaterExpr, LaterPat, RawConst};
 use crate::later_types::{LaterArgs, LaterType};
 use hir_types::{
-    AdtId, BindingId, BodyId, ConstId, ExprId, FunctionId, IntegerTy, LabelId, List, ModuleId,
-    PatId, Text, TraitId, TypeAliasId, TypeRefId, VariantId,
+    AdtId, BindingId, BodyId, ConstId, ExprId, FunctionId, ImplId, IntegerTy, LabelId, List,
+    ModuleId, PatId, Text, TraitId, TypeAliasId, TypeRefId, VariantId,
 };
 
 /// A part of a kind that is not carried yet; its own parts are not read.
@@ -160,11 +160,12 @@ pub enum RawAdtKind {
     Union,
 }
 
-/// Where a function stands.
+/// Where a function or a constant stands.
 #[derive(Clone, Copy, Debug)]
 pub enum RawAt {
     Module(ModuleId),
-    Other,
+    Impl(ImplId),
+    Trait(TraitId),
 }
 
 /// Where an item is visible: everywhere, or in a module and its descendants.
@@ -234,6 +235,24 @@ pub struct RawFn {
     /// Whether it may be called outside of `unsafe`.
     pub safe: bool,
     pub vis: RawVis,
+    pub body: Option<BodyId>,
+}
+
+/// A constant.
+#[derive(Debug, Drop)]
+pub struct RawConstItem {
+    pub name: Text,
+    /// Where it stands.
+    pub at: RawAt,
+    pub type_: TypeRefId,
+    pub vis: RawVis,
+    pub body: Option<BodyId>,
+}
+
+/// A static.
+#[derive(Clone, Copy, Debug)]
+pub struct RawStatic {
+    pub type_: TypeRefId,
     pub body: Option<BodyId>,
 }
 
@@ -441,8 +460,8 @@ pub struct RawFacts {
     pub adts: List<RawAdt>,
     pub variants: List<RawVariant>,
     pub fns: List<RawFn>,
-    pub consts: List<Other>,
-    pub statics: List<Other>,
+    pub consts: List<RawConstItem>,
+    pub statics: List<RawStatic>,
     pub traits: List<RawTrait>,
     pub aliases: List<RawAlias>,
     pub impls: List<RawImpl>,

@@ -2,6 +2,7 @@
 use Rattle.std.specs.Prelude.{◌≡◌, ◌<◌, ◌+◌, ◌==◌, ℕ, zero, suc, true, List, [], ◌∷◌, length, map, slice_get, Option, Some, None, option_map, refl}
 use Rattle.std.proofs.Common.{arith, sym, ap, ◌∙◌, subst, true≢false}
 use Rattle.infer_needs.specs.Words.{DefWithBodyId, ExprOrPatId, GenericDefId, TypeAliasId, TypeRefId, AliasBound, GenericArg, GenericArg-F, out-GenericArg, roll-out-GenericArg, TraitRef, Ty, Ty-F, out-Ty, roll-out-Ty, arg_as_type, in_arg, in_ty, Term, hole, leaf, pair, chain, arg_step, ty_step, term, arg_term, terms, term_at, arg_term_at, term_error, RawAdt, RawBody, RawExpr, RawFacts, RawFn, RawGoal, RawPath, RawTrait, RawType, RawVariant, arg_types, fn_aliases, variant_aliases, scope_of, params_of, adt_params, alias_params, alias_params_by, has_params, count_or_none, generic_params, AllHold, GoalExists, AliasIdsExist, params_in, wrongs_in, wrong_args, IsLawful, adt_ids, fn_ids, fns_fit, variants_fit, plain, role, ReadsAs, Kind, implements, projects, Asked, System, Each, answers, args_at, goal_at, preds_or_none, IsSystemOf, InferenceResult, alias_goals_by, alias_goals_from, fn_alias_goals, variant_alias_goals, path_alias_goals, alias_goals, variant_preds, path_preds, expr_preds, item_args, item_path, needed_goals, needs_of, pat_needs_by, pat_needs_of, node_needs, GoalReads, recorded, IsTableOf, width, RawImpl}
+use Rattle.infer_needs.specs.Words.hir_facts.LawfulFacts as lawful
 use Rattle.hir_types.specs.declared.ids.ExprOrPatId.TheVariants as node
 use Rattle.hir_types.specs.declared.head.Head.TheVariants as head
 use Rattle.hir_types.specs.Assigned.{type_of}
@@ -45,7 +46,7 @@ same_test m n is = grind arith
 
 module _ (raw : RawFacts) (law : IsLawful raw) where
   aliases_exist : AllHold (AliasIdsExist raw) raw.aliases
-  aliases_exist = law.all.1.1.1.1.1.1.1.1.1.1.1.1.1.1.1.1.0
+  aliases_exist = lawful.alias_ids raw law
 
   many_taken : (k : TypeAliasId) (ws : List TypeRefId) → k.0 < length raw.aliases → length ws ≡ counts.alias_params raw (slice_get raw.aliases k.0) → has_params (alias_params raw k) (length ws) ≡ true
   many_taken k ws within many =

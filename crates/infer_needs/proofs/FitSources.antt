@@ -2,6 +2,7 @@
 use Rattle.std.specs.Prelude.{◌≡◌, ◌+◌, ◌==◌, ℕ, zero, suc, max, Bool, true, false, ◌&&◌, if◌then◌else◌, List, [], ◌∷◌, length, map, slice_get, Option, Some, None, option_map, refl}
 use Rattle.std.proofs.Common.{arith, sym, ap, ◌∙◌, subst}
 use Rattle.infer_needs.specs.Words.{GenericDefId, TraitId, TypeRefId, GenericArg, with_params, replaced_error, replaced, term_error, Term, chain, type_part, term, most, RawAdt, RawAlias, RawAssocType, RawFn, RawGoal, RawImpl, RawTrait, RawType, RawFacts, arg_types, adt_params, alias_params, has_params, filled_within, AllHold, GoalFits, GoalsFit, AdtFits, TraitFits, AliasFits, ImplFits, most_by, most_within, wrong_count, wrong_alias_count, wrong_args, params_in, wrongs_in, IsLawful, fns_fit, width, type_at, args_at, preds_or_none, trait_preds, env_trait, preds_of_trait, env_preds}
+use Rattle.infer_needs.specs.Words.hir_facts.LawfulFacts as lawful
 use Rattle.hir_types.specs.declared.ids.GenericDefId.TheVariants as generic
 use Rattle.hir_types.specs.declared.ty.IntegerTy.TheVariants.{Int, Uint}
 use Rattle.hir_types.specs.declared.ty.Ty.TheVariants as ty
@@ -144,16 +145,16 @@ maybe_counted raw goals (Some x) each = each x refl
 
 module _ (raw : RawFacts) (law : IsLawful raw) where
   pub adts_fit : AllHold (λ i a. AdtFits raw a) raw.adts
-  adts_fit = law.all.1.1.1.1.1.1.1.1.1.1.1.1.1.1.1.1.1.1.1.1.1.0
+  adts_fit = lawful.adts_fit raw law
 
   traits_fit : AllHold (λ i t. TraitFits raw t) raw.traits
-  traits_fit = law.all.1.1.1.1.1.1.1.1.1.1.1.1.1.1.1.1.1.1.1.1.1.1.1.1.0
+  traits_fit = lawful.traits_fit raw law
 
   pub aliases_fit : AllHold (λ i a. AliasFits raw a) raw.aliases
-  aliases_fit = law.all.1.1.1.1.1.1.1.1.1.1.1.1.1.1.1.1.1.1.1.1.1.1.1.1.1.0
+  aliases_fit = lawful.aliases_fit raw law
 
   pub impls_fit : AllHold (λ i p. ImplFits raw p) raw.impls
-  impls_fit = law.all.1.1.1.1.1.1.1.1.1.1.1.1.1.1.1.1.1.1.1.1.1.1.1.1.1.1.0
+  impls_fit = lawful.impls_fit raw law
 
   pub trait_counted : (t : TraitId) → GoalsAreCounted raw (trait_preds raw t)
   trait_counted t = maybe_counted raw (λ (x : RawTrait). x.preds) (slice_get raw.traits t.0) (λ x here. goals_counted raw (length x.params + 1) x.preds (traits_fit t.0 x here))

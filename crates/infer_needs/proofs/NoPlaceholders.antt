@@ -1,7 +1,8 @@
 -- No `_` stands in what goals, impls and bounds are written with; so none stands in them at arguments in which none does.
 use Rattle.std.specs.Prelude.{◌≡◌, ◌≤◌, ◌++◌, ℕ, zero, suc, max, Bool, true, false, if◌then◌else◌, List, [], ◌∷◌, length, map, flat_map, slice_get, Option, Some, None, option_map, IfSome, refl}
 use Rattle.std.proofs.Common.{arith, sym, ap, ◌∙◌, subst}
-use Rattle.infer_needs.specs.Words.{GenericDefId, TraitId, TypeAliasId, TypeRefId, Head, GenericArg, with_params, replaced_error, replaced, term_error, Term, leaf, pair, chain, type_part, term, most, RawAdt, RawAlias, RawAssocType, RawField, RawFn, RawGoal, RawImpl, RawTrait, RawTraitRef, RawType, RawVariant, RawFacts, arg_types, is_alias, aliases_by, aliases_within, aliases_at, aliases_in, fn_aliases, field_refs, variant_aliases, type_parts, filled_within, AllHold, TypesExist, TraitRefExists, GoalExists, GoalsExist, TraitIdsExist, AliasIdsExist, ImplIdsExist, IsGivenIn, most_above, own_most, part_most, hole_at, most_by, most_within, most_in, HasNoHole, variant_uses, fn_uses, goal_uses, goals_uses, trait_ref_uses, impl_uses, abstract_uses, item_uses, IsLawful, type_ids, adt_ids, fn_ids, In, in_first, in_last, in_flat, item_has_no_hole, input_has_no_hole, output_has_no_hole, field_has_no_hole, Each, type_at, args_at, goal_at, preds_or_none, trait_preds, env_trait, preds_of_trait, env_preds, IsWrittenHead}
+use Rattle.infer_needs.specs.Words.{GenericDefId, TraitId, TypeAliasId, TypeRefId, Head, GenericArg, with_params, replaced_error, replaced, term_error, Term, leaf, pair, chain, type_part, term, most, RawAdt, RawAlias, RawAssocType, RawField, RawFn, RawGoal, RawImpl, RawTrait, RawTraitRef, RawType, RawVariant, RawFacts, arg_types, is_alias, aliases_by, aliases_within, aliases_at, aliases_in, fn_aliases, field_refs, variant_aliases, type_parts, filled_within, AllHold, TypesExist, TraitRefExists, GoalExists, GoalsExist, TraitIdsExist, AliasIdsExist, ImplIdsHere, IsGivenIn, most_above, own_most, part_most, hole_at, most_by, most_within, most_in, HasNoHole, variant_uses, fn_uses, goal_uses, goals_uses, trait_ref_uses, impl_uses, abstract_uses, item_uses, IsLawful, type_ids, adt_ids, fn_ids, In, in_first, in_last, in_flat, item_has_no_hole, input_has_no_hole, output_has_no_hole, field_has_no_hole, Each, type_at, args_at, goal_at, preds_or_none, trait_preds, env_trait, preds_of_trait, env_preds, IsWrittenHead}
+use Rattle.infer_needs.specs.Words.hir_facts.LawfulFacts as lawful
 use Rattle.hir_types.specs.declared.ids.GenericDefId.TheVariants as generic
 use Rattle.hir_types.specs.declared.head.Head.TheVariants as head
 use Rattle.hir_types.specs.declared.ty.IntegerTy.TheVariants.{Int, Uint}
@@ -174,13 +175,13 @@ module _ (raw : RawFacts) (law : IsLawful raw) where
   -- ---- predicates and bounds
 
   traits_exist : AllHold (TraitIdsExist raw) raw.traits
-  traits_exist = law.all.1.1.1.1.1.1.1.1.1.1.1.1.1.1.1.0
+  traits_exist = lawful.trait_ids raw law
 
   aliases_exist : AllHold (AliasIdsExist raw) raw.aliases
-  aliases_exist = law.all.1.1.1.1.1.1.1.1.1.1.1.1.1.1.1.1.0
+  aliases_exist = lawful.alias_ids raw law
 
-  pub impls_exist : AllHold (λ i p. ImplIdsExist raw p) raw.impls
-  impls_exist = law.all.1.1.1.1.1.1.1.1.1.1.1.1.1.1.1.1.1.0
+  pub impls_exist : AllHold (λ i p. ImplIdsHere raw p) raw.impls
+  impls_exist = lawful.impl_ids raw law
 
   pub trait_has_none : (t : TraitId) → GoalsHaveNoHole raw (trait_preds raw t)
   trait_has_none t = maybe_none (λ (x : RawTrait). x.preds) raw.traits in_traits t.0 (slice_get raw.traits t.0) refl (λ x here. (traits_exist t.0 x here).preds)

@@ -4,6 +4,7 @@ use Rattle.std.specs.List.{range_with_len}
 use Rattle.std.proofs.Common.{inl, inr, arith, sym, ap, ◌∙◌, subst, true≢false}
 use Rattle.std.proofs.lemmas.Bool.{lt-ltb, or_cases, or_left, or_right}
 use Rattle.infer_needs.specs.Words.{GenericDefId, TypeAliasId, TypeRefId, Head, Hole, GenericArg, Ty, arg_as_type, with_params, Term, hole, leaf, pair, chain, apply, occurs, hole_number, term, arg_term, term_param, term_error, term_var, arg_term_type, width, hole_eq_true, hole_eq_same, RawAlias, RawAssocType, RawFacts, RawGoal, RawImpl, RawTrait, RawTraitRef, arg_types, adt_params, alias_params, alias_params_by, callable_params, has_params, count_or_none, params_in_trait, generic_params, AllHold, AliasIdsExist, IsLawful, Fill, plain, alias, role, staying, stands, Aliases, Reads, ReadsAs, MayRead, Kind, implements, projects, Asked, Rule, System, asked_at, args_of, type_of, key, Each, OneOf, Verdicts, IsNth, Gives, GivesNone, alias_next, answers, holes, own_params, type_at, args_at, goal_at, BoundSays, IsListed, IsStated, trait_holes, IsSuper, impl_holes, assoc_rule, rules_for, impl_rules, fact, IsSystemOf}
+use Rattle.infer_needs.specs.Words.hir_facts.LawfulFacts as lawful
 use Rattle.hir_types.specs.declared.head.Head.TheVariants as head
 use Rattle.hir_types.specs.declared.ty.GenericArg.TheVariants as arg
 use Rattle.hir_types.specs.declared.ty.Ty.TheVariants as ty
@@ -279,7 +280,7 @@ module _ (raw : RawFacts) (law : IsLawful raw) (n : ℕ) where
   -- ---- what bounds say
 
   aliases_exist : AllHold (AliasIdsExist raw) raw.aliases
-  aliases_exist = law.all.1.1.1.1.1.1.1.1.1.1.1.1.1.1.1.1.0
+  aliases_exist = lawful.alias_ids raw law
 
   trait_there : (ts : List RawTrait) (i : ℕ) → i < length ts → (x : RawTrait) × (slice_get ts i ≡ Some x)
   trait_there [] i lt = absurd (omega (arith, lt))

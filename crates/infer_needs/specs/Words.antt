@@ -25,7 +25,7 @@ pub use Rattle.hir_types.specs.declared.ty.TraitRef.{TraitRef, out-TraitRef}
 pub use Rattle.hir_types.specs.declared.ty.Ty.{Ty, Ty-F, ind-Ty, map-Ty, out-Ty, out-roll-Ty, roll-Ty, roll-out-Ty}
 pub use Rattle.infer_goals.specs.Words.{arg_fits, const_fits, fits_arg, fits_bound, fits_step, fits_trait, ty_fits, arg_types, aliases_at, aliases_by, aliases_in, aliases_within, field_refs, fn_aliases, is_alias, variant_aliases, expr_aliases, let_aliases, stmt_aliases, stmts_of, Scope, adt_params, alias_params, alias_params_by, callable_params, count_or_none, generic_params, has_params, params_in_trait, params_of, scope_of, type_args, filled_by, lowered, type_parts, RawAdt, RawAlias, RawAssocType, RawBody, RawExpr, RawFacts, RawField, RawFn, RawGoal, RawImpl, RawLiteral, RawParam, RawPath, RawStmt, RawTrait, RawTraitRef, RawType, RawVariant, AreOf}
 unfoldable pub use Rattle.infer_goals.specs.Words.{filled_within}
-pub use Rattle.infer_goals.specs.Words.{body_id_of, body_of, AdtFits, AliasFits, GoalFits, GoalsFit, ImplFits, TraitFits, AllHold, AliasIdsExist, GoalExists, GoalsExist, ImplIdsExist, IsGivenIn, TraitIdsExist, TraitRefExists, TypesExist, IsLawful, adt_ids, fn_ids, fns_fit, type_ids, variants_fit, most_above, own_most, part_most, In, field_has_no_hole, in_first, in_flat, in_last, input_has_no_hole, item_has_no_hole, output_has_no_hole, HasNoHole, hole_at, most_by, most_in, param_bound, params_in, wrong_alias_count, wrong_args, wrong_count, wrongs_in, abstract_uses, fn_uses, goal_uses, goals_uses, impl_uses, item_uses, trait_ref_uses, variant_uses, FitsThere, inputs_fit, lets_fit, output_fits, parts_there}
+pub use Rattle.infer_goals.specs.Words.{body_id_of, body_of, AdtFits, AliasFits, GoalFits, GoalsFit, ImplFits, TraitFits, AllHold, AliasIdsExist, GoalExists, GoalsExist, ImplIdsHere, IsGivenIn, TraitIdsExist, TraitRefExists, TypesExist, IsLawful, adt_ids, fn_ids, fns_fit, type_ids, variants_fit, most_above, own_most, part_most, In, field_has_no_hole, in_first, in_flat, in_last, input_has_no_hole, item_has_no_hole, output_has_no_hole, HasNoHole, hole_at, most_by, most_in, param_bound, params_in, wrong_alias_count, wrong_args, wrong_count, wrongs_in, abstract_uses, fn_uses, goal_uses, goals_uses, impl_uses, item_uses, trait_ref_uses, variant_uses, FitsThere, inputs_fit, lets_fit, output_fits, parts_there}
 unfoldable pub use Rattle.infer_goals.specs.Words.{most_within}
 pub use Rattle.infer_goals.specs.Words.{width, IsFront, hole_eq_same, hole_eq_true}
 pub use Rattle.infer_goals.specs.Words.{Gives, GivesNone, HasNoSource, HasSource, IsApart, IsRefuted, Proves, RuleIsRefuted, Shadows, ShadowsNot, YesAt, alias_next, answers, Asked, Each, IsKnown, Kind, OneIf, OneOf, Rule, SomeOf, System, Verdicts, args_of, asked_at, implements, is_among, key, only, projects, type_of, HasProof, Aliases, Fill, IsFilling, IsRead, MayRead, Reads, ReadsAs, alias, alias_at, plain, role, stands, staying, IsNth, ReadingIs, known_below}

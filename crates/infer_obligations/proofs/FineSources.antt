@@ -4,7 +4,8 @@ use Rattle.std.specs.List.{range_with_len}
 use Rattle.std.proofs.Common.{inl, inr, sym, ap, ◌∙◌, subst, arith, true≢false}
 use Rattle.std.proofs.lemmas.Bool.{ltb-true, lt-ltb, or_cases, or_left, or_right}
 use Rattle.std.proofs.lemmas.List.{length-map}
-use Rattle.infer_obligations.specs.Words.{DefWithBodyId, FunctionId, GenericDefId, TraitId, TypeRefId, Hole, GenericArg, Ty, with_params, map_twice, param_at, types_args_replaced, replaced_bool, replaced_char, replaced_int, replaced_uint, replaced_var, replaced_int_var, replaced_tuple, replaced_adt, replaced_fn_def, replaced, Term, hole, leaf, pair, chain, apply, occurs, hole_number, type_part, term, term_var, term_int_var, RawAdt, RawAssocType, RawFn, RawGoal, RawImpl, RawTrait, RawTraitRef, RawType, RawBody, RawFacts, arg_types, Scope, adt_params, has_params, scope_of, count_or_none, types_scope, type_args, at_args, is_alias, type_parts, filled_within, written_type, AllHold, TraitRefExists, GoalExists, GoalsExist, TraitIdsExist, ImplIdsExist, HoldsProjection, is_one, IsNoProjection, TypeFits, GoalFits, AdtFits, TraitFits, ImplFits, ImplTraitFits, HasNoHole, params_in, wrongs_in, goal_uses, goals_uses, impl_uses, trait_ref_uses, fn_uses, variant_uses, abstract_uses, item_uses, body_of, IsLawful, adt_ids, fn_ids, fns_fit, holes_fit, In, in_first, in_last, in_flat, type_there, FitsUnder, fits_more, Shape, TermRole, whole, part, rest, IsMadeOf, width_apply, hole_eq_same, hole_eq_true, Kind, implements, projects, Asked, Rule, System, Each, key, Fill, IsNth, IsConcrete, IsTraitKind, holes, own_params, type_at, args_at, goal_at, preds_or_none, trait_preds, trait_holes, IsStated, IsSuper, impl_holes, impl_args, assoc_rule, rules_for, impl_rules, fact, IsSystemOf, HasHeadsIfConcrete, RuleHasHeadsOf, SystemHasHeadsOf, scope_item, is_fine_head, item_params, HasFineHeads, Every}
+use Rattle.infer_obligations.specs.Words.{DefWithBodyId, FunctionId, GenericDefId, TraitId, TypeRefId, Hole, GenericArg, Ty, with_params, map_twice, param_at, types_args_replaced, replaced_bool, replaced_char, replaced_int, replaced_uint, replaced_var, replaced_int_var, replaced_tuple, replaced_adt, replaced_fn_def, replaced, Term, hole, leaf, pair, chain, apply, occurs, hole_number, type_part, term, term_var, term_int_var, RawAdt, RawAssocType, RawFn, RawGoal, RawImpl, RawTrait, RawTraitRef, RawType, RawBody, RawFacts, arg_types, Scope, adt_params, has_params, scope_of, count_or_none, types_scope, type_args, at_args, is_alias, type_parts, filled_within, written_type, AllHold, TraitRefExists, GoalExists, GoalsExist, TraitIdsExist, ImplIdsHere, HoldsProjection, is_one, IsNoProjection, TypeFits, GoalFits, AdtFits, TraitFits, ImplFits, ImplTraitFits, HasNoHole, params_in, wrongs_in, goal_uses, goals_uses, impl_uses, trait_ref_uses, fn_uses, variant_uses, abstract_uses, item_uses, body_of, IsLawful, adt_ids, fn_ids, fns_fit, holes_fit, In, in_first, in_last, in_flat, type_there, FitsUnder, fits_more, Shape, TermRole, whole, part, rest, IsMadeOf, width_apply, hole_eq_same, hole_eq_true, Kind, implements, projects, Asked, Rule, System, Each, key, Fill, IsNth, IsConcrete, IsTraitKind, holes, own_params, type_at, args_at, goal_at, preds_or_none, trait_preds, trait_holes, IsStated, IsSuper, impl_holes, impl_args, assoc_rule, rules_for, impl_rules, fact, IsSystemOf, HasHeadsIfConcrete, RuleHasHeadsOf, SystemHasHeadsOf, scope_item, is_fine_head, item_params, HasFineHeads, Every}
+use Rattle.infer_obligations.specs.Words.hir_facts.LawfulFacts as lawful
 use Rattle.hir_types.specs.declared.ids.DefWithBodyId.TheVariants as def
 use Rattle.hir_types.specs.declared.ids.GenericDefId.TheVariants as generic
 use Rattle.hir_types.specs.declared.head.Head.TheVariants as head
@@ -302,19 +303,19 @@ module _ (raw : RawFacts) (law : IsLawful raw) where
   in_impls y h = behind_bounds y (in_last impl_preds_use impls_use y h)
 
   adts_fit : AllHold (λ i a. AdtFits raw a) raw.adts
-  adts_fit = law.all.1.1.1.1.1.1.1.1.1.1.1.1.1.1.1.1.1.1.1.1.1.0
+  adts_fit = lawful.adts_fit raw law
 
   traits_fit : AllHold (λ i t. TraitFits raw t) raw.traits
-  traits_fit = law.all.1.1.1.1.1.1.1.1.1.1.1.1.1.1.1.1.1.1.1.1.1.1.1.1.0
+  traits_fit = lawful.traits_fit raw law
 
   impls_fit : AllHold (λ i p. ImplFits raw p) raw.impls
-  impls_fit = law.all.1.1.1.1.1.1.1.1.1.1.1.1.1.1.1.1.1.1.1.1.1.1.1.1.1.1.0
+  impls_fit = lawful.impls_fit raw law
 
   traits_exist : AllHold (TraitIdsExist raw) raw.traits
-  traits_exist = law.all.1.1.1.1.1.1.1.1.1.1.1.1.1.1.1.0
+  traits_exist = lawful.trait_ids raw law
 
-  impls_exist : AllHold (λ i p. ImplIdsExist raw p) raw.impls
-  impls_exist = law.all.1.1.1.1.1.1.1.1.1.1.1.1.1.1.1.1.1.0
+  impls_exist : AllHold (λ i p. ImplIdsHere raw p) raw.impls
+  impls_exist = lawful.impl_ids raw law
 
   adts_exist : (a : ℕ) (x : RawAdt) → slice_get raw.adts a ≡ Some x → GoalsExist raw x.preds
   adts_exist a x at = (adt_ids raw law a x at).preds

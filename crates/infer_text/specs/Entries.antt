@@ -12,7 +12,7 @@ use Rattle.infer_text.specs.Words.hir_raw.declared.raw.RawVis.TheVariants as vis
 use Rattle.infer_text.specs.Words.hir_raw.declared.raw.RawParam.TheVariants as param
 use Rattle.infer_text.specs.Words.hir_raw.declared.later_types.Former.TheVariants as former
 use Rattle.infer_text.specs.Reading.{◌>>=◌, ◌>>◌, there, field, part, keys_in, parts_in, tag, is_tag, bool_in, text_in, u32_in, option_in, list_in}
-use Rattle.infer_text.specs.Leaves.{module_in, trait_in, alias_id_in, adt_id_in, variant_id_in, type_ref_in, body_id_in, integer_name, integer_in, adt_kind_in, ctor_in}
+use Rattle.infer_text.specs.Leaves.{impl_id_in, module_in, trait_in, alias_id_in, adt_id_in, variant_id_in, type_ref_in, body_id_in, integer_name, integer_in, adt_kind_in, ctor_in}
 use Rattle.infer_text.specs.LaterTypes.{later_type_in}
 use Rattle.infer_text.specs.WrittenArgs.{args_in}
 
@@ -100,13 +100,13 @@ goal_in d = do
 
 -- ---- functions
 
--- ["module", m], ["impl", i] or ["trait", t], of which the last two are not read
+-- ["module", m], ["impl", i] or ["trait", t]
 unfoldable pub at_in : Data → Result RawAt (List ℕ)
 at_in d = do
   t ← there (tag d)
   if is_tag t (codes "module") 2 then part module_in 1 d >>= (λ m. Ok (stands.Module m)) else
-      if is_tag t (codes "impl") 2 then Ok stands.Other else
-      if is_tag t (codes "trait") 2 then Ok stands.Other else
+      if is_tag t (codes "impl") 2 then part impl_id_in 1 d >>= (λ p. Ok (stands.Impl p)) else
+      if is_tag t (codes "trait") 2 then part trait_in 1 d >>= (λ x. Ok (stands.Trait x)) else
       Err []
 
 abbrev vis_by : Option (List ℕ) → Data → Result RawVis (List ℕ)

@@ -12,6 +12,7 @@ use Rattle.infer_text.specs.declared.fault.ReadError.TheVariants as error
 use Rattle.infer_text.specs.Reading.{◌>>=◌, ◌>>◌, field, keys_in, bool_in, option_in, list_in}
 use Rattle.infer_text.specs.Leaves.{module_in, other_in, profile_in, edition_in}
 use Rattle.infer_text.specs.Entries.{type_in, adt_in, variant_in, fn_in, limits_in}
+use Rattle.infer_text.specs.Values.{const_item_in, static_in}
 use Rattle.infer_text.specs.Abstract.{trait_item_in, alias_in, impl_in, lang_in}
 use Rattle.infer_text.specs.Bodies.{body_in}
 
@@ -33,8 +34,8 @@ items_in d = do
   adts ← field (list_in adt_in) (codes "adts") d
   variants ← field (list_in variant_in) (codes "variants") d
   fns ← field (list_in fn_in) (codes "fns") d
-  consts ← field (list_in other_in) (codes "consts") d
-  statics ← field (list_in other_in) (codes "statics") d
+  consts ← field (list_in const_item_in) (codes "consts") d
+  statics ← field (list_in static_in) (codes "statics") d
   Ok (record {
     types = types;
     modules = modules;

@@ -11,6 +11,7 @@ pub mod LaterExprs
 pub mod Exprs
 pub mod Pats
 pub mod Bodies
+pub mod Values
 pub mod Facts
 pub mod Abstract
 pub mod Session

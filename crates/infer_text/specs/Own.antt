@@ -23,6 +23,7 @@ unfoldable pub use Rattle.infer_text.specs.Reading.{bool_in, text_in, u32_in}
 pub use Rattle.infer_text.specs.Session.{Session, definition, facts_of, raw_session}
 unfoldable pub use Rattle.infer_text.specs.Session.{command_in, definition_in, kind_in, session_in}
 unfoldable pub use Rattle.infer_text.specs.Stmts.{expr_stmt_in, let_in, stmt_in}
+unfoldable pub use Rattle.infer_text.specs.Values.{const_item_in, static_in}
 pub use Rattle.infer_text.specs.WrittenArgs.{apart, args_by, const_of, consts_among, is_type, kind_of, type_of, types_among, written_args_in}
 unfoldable pub use Rattle.infer_text.specs.WrittenArgs.{args_in, const_in, named_const_in, written_arg_in}
 pub use Rattle.infer_text.specs.declared.fault.Misread.{Misread}

@@ -44,3 +44,5 @@ pub use Rattle.hir_laws.specs.Words.hir_raw.declared.later_types.Former.{Former}
 pub use Rattle.hir_laws.specs.Words.hir_raw.declared.later_types.LaterArgs.{LaterArgs}
 pub use Rattle.hir_laws.specs.Words.hir_raw.declared.later_types.LaterType.{LaterType}
 pub use Rattle.hir_laws.specs.Words.hir_raw.declared.later_types.RawPrincipal.{RawPrincipal}
+pub use Rattle.hir_laws.specs.Words.hir_raw.declared.raw.RawConstItem.{RawConstItem}
+pub use Rattle.hir_laws.specs.Words.hir_raw.declared.raw.RawStatic.{RawStatic}

@@ -125,9 +125,9 @@ impl FromData for RawAt {
         if is(tag, "module", 2) {
             Ok(RawAt::Module(part_of(alloc, value, 1)?))
         } else if is(tag, "impl", 2) {
-            Ok(RawAt::Other)
+            Ok(RawAt::Impl(part_of(alloc, value, 1)?))
         } else if is(tag, "trait", 2) {
-            Ok(RawAt::Other)
+            Ok(RawAt::Trait(part_of(alloc, value, 1)?))
         } else {
             Err(misshapen(alloc))
         }

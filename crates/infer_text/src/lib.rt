@@ -17,6 +17,7 @@ mod reader;
 mod reading;
 mod session;
 mod stmts;
+mod values;
 mod wanted;
 mod wanted_traits;
 mod written_args;

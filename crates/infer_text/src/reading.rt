@@ -8,8 +8,8 @@ use super::fault::{Misread, ReadError};
 use super::leaves::Profile;
 use super::reader::{FromData, expect_keys, field_of};
 use hir_facts::{
-    Edition, Facts, List, ModuleId, Other, RawAdt, RawAlias, RawFacts, RawFn, RawImpl, RawLang,
-    RawLimits, RawTrait, RawType, RawVariant,
+    Edition, Facts, List, ModuleId, Other, RawAdt, RawAlias, RawConstItem, RawFacts, RawFn,
+    RawImpl, RawLang, RawLimits, RawStatic, RawTrait, RawType, RawVariant,
 };
 use hir_laws::{FactsError, lawful_facts};
 use serde_json::{Category, Value};
@@ -51,8 +51,8 @@ struct Items {
     adts: List<RawAdt>,
     variants: List<RawVariant>,
     fns: List<RawFn>,
-    consts: List<Other>,
-    statics: List<Other>,
+    consts: List<RawConstItem>,
+    statics: List<RawStatic>,
 }
 
 #[tactic(auto, unfolding(crate::specs::Facts::items_in))]

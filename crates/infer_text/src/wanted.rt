@@ -8,7 +8,7 @@ pub struct Wanted {
     pub what: &'static str,
 }
 
-const NUMBER: &str = "a whole number from 0, below 2^32";
+pub const NUMBER: &str = "a whole number from 0, below 2^32";
 
 pub const ANY_LIST: &str = "a list";
 
@@ -22,9 +22,11 @@ const EXPRESSION: &str = "an expression's number";
 
 pub const PARAM: &str = "\"t\" or [\"c\", TYPE]";
 
-const VIS: &str = "\"pub\" or a module's number";
+pub const VIS: &str = "\"pub\" or a module's number";
 
-const MAYBE_BODY: &str = "a body's number, or null";
+pub const AT: &str = "[\"module\", m], [\"impl\", i] or [\"trait\", t]";
+
+pub const MAYBE_BODY: &str = "a body's number, or null";
 
 static PLACES: [Wanted; 76] = [
     Wanted {
@@ -225,7 +227,7 @@ static PLACES: [Wanted; 76] = [
     },
     Wanted {
         path: b"fns.#.at",
-        what: "[\"module\", m], [\"impl\", i] or [\"trait\", t]",
+        what: AT,
     },
     Wanted {
         path: b"fns.#.at.#",

@@ -1,13 +1,56 @@
-//! What a facts text has to have at a path of a goal, a trait, an associated type, an impl or a language item.
+//! What a facts text has to have at a path of a goal, a constant, a static, a trait, an associated type, an impl or a
+//! language item.
 
-use crate::wanted::{ANY_LIST, INDEX_OF_TYPE, PARAM, TEXT, TRUTH, Wanted, fits};
+use crate::wanted::{
+    ANY_LIST, AT, INDEX_OF_TYPE, MAYBE_BODY, NUMBER, PARAM, TEXT, TRUTH, VIS, Wanted, fits,
+};
 
 const GOAL: &str =
     "[\"trait\", trait, [ARGUMENT]] or [\"proj\", associated type, [ARGUMENT], TYPE]";
 
 const TRAIT: &str = "a trait's number";
 
-static PLACES: [Wanted; 27] = [
+static PLACES: [Wanted; 37] = [
+    Wanted {
+        path: b"consts.#",
+        what: "an object with exactly the five keys of a constant",
+    },
+    Wanted {
+        path: b"consts.#.name",
+        what: TEXT,
+    },
+    Wanted {
+        path: b"consts.#.at",
+        what: AT,
+    },
+    Wanted {
+        path: b"consts.#.at.#",
+        what: NUMBER,
+    },
+    Wanted {
+        path: b"consts.#.vis",
+        what: VIS,
+    },
+    Wanted {
+        path: b"consts.#.type",
+        what: INDEX_OF_TYPE,
+    },
+    Wanted {
+        path: b"consts.#.body",
+        what: MAYBE_BODY,
+    },
+    Wanted {
+        path: b"statics.#",
+        what: "an object with exactly the two keys of a static",
+    },
+    Wanted {
+        path: b"statics.#.type",
+        what: INDEX_OF_TYPE,
+    },
+    Wanted {
+        path: b"statics.#.body",
+        what: MAYBE_BODY,
+    },
     Wanted {
         path: b"adts.#.preds.#",
         what: GOAL,

@@ -32,6 +32,16 @@ pub enum WrongCount {
         param: usize,
         count: usize,
     },
+    /// What is no function of a trait or an impl with an input has `self`.
+    Self_,
+    /// A body binds `self`, or not, and its function hasn't it, or has.
+    SelfBound(bool),
+    /// A body that is no function's has `self` or parameters.
+    NotBare,
+    /// The discriminant of what is no variant of an enum.
+    Discriminant,
+    /// What may lose its size is no type parameter of a struct.
+    Unsize,
     /// A body names a const parameter, and no item with one is carried yet.
     ConstParam(usize),
 }
@@ -63,6 +73,23 @@ impl fmt::Display for WrongCount {
             WrongCount::Param { ty, param, count } => {
                 let count = Counted(*count, "type parameter");
                 write!(f, "type {ty} is parameter {param}, the item has {count}")
+            }
+            WrongCount::Self_ => {
+                write!(
+                    f,
+                    "`self` is an input of functions of traits and impls alone"
+                )
+            }
+            WrongCount::SelfBound(true) => { write!(f, "its body binds `self`, which it has not") }
+            WrongCount::SelfBound(false) => write!(f, "it has `self`, and its body binds none"),
+            WrongCount::NotBare => {
+                write!(f, "its body has `self` or parameters, and is no function's")
+            }
+            WrongCount::Discriminant => {
+                write!(f, "a discriminant is that of a variant of an enum")
+            }
+            WrongCount::Unsize => {
+                write!(f, "what may lose its size is a type parameter of a struct")
             }
             WrongCount::ConstParam(number) => {
                 write!(
@@ -171,11 +198,82 @@ fn of_body(
     Ok(None)
 }
 
+/// The body of an item, where it has one.
+fn body_of<'a>(facts: &'a Value, item: &Value) -> Option<&'a Value> {
+    list(facts, "bodies").get(number(item.get("body"))?)
+}
+
+/// How many parameters the trait or impl has in which an item stands.
+fn params_there(facts: &Value, item: &Value) -> usize {
+    let at = item.get("at");
+    let named = number(at.and_then(|at| at.get(1usize)));
+    let (key, more) = match word(at) {
+        "impl" => ("impls", 0usize),
+        "trait" => ("traits", 1usize),
+        _ => return 0,
+    };
+    let container = named.and_then(|named| list(facts, key).get(named));
+    match container {
+        None => 0,
+        Some(container) => list(container, "params").len().saturating_add(more),
+    }
+}
+
+fn has_self(function: &Value) -> bool {
+    matches!(function.get("has_self"), Some(Value::Bool(true)))
+}
+
+/// What is wrong with a function's `self`.
+fn of_self(facts: &Value, place: Place, function: &Value) -> Option<(Place, WrongCount)> {
+    let has = has_self(function);
+    let may = word(function.get("at")) != "module" && !list(function, "inputs").is_empty();
+    if has && !may {
+        return Some((place.key("has_self"), WrongCount::Self_));
+    }
+    let bound = number(body_of(facts, function)?.get("self")).is_some();
+    if bound == has {
+        None
+    } else {
+        Some((place.key("has_self"), WrongCount::SelfBound(bound)))
+    }
+}
+
+/// What is wrong with the body of what is no function.
+fn of_bare(facts: &Value, place: Place, item: &Value) -> Option<(Place, WrongCount)> {
+    let body = body_of(facts, item)?;
+    if number(body.get("self")).is_some() || !list(body, "params").is_empty() {
+        Some((place.key("body"), WrongCount::NotBare))
+    } else {
+        None
+    }
+}
+
+/// The counts of a constant or a static that do not fit.
+fn of_value(
+    alloc: Global,
+    facts: &Value,
+    place: Place,
+    item: &Value,
+) -> Result<Option<(Place, WrongCount)>, AllocError> {
+    let wrongs = wrongs_of(alloc, facts, params_there(facts, item))?;
+    if let Some(wrong) = at_part(&wrongs, item.get("type")) {
+        return Ok(Some((place.key("type"), wrong)));
+    }
+    match of_bare(facts, place, item) {
+        Some(found) => Ok(Some(found)),
+        None => of_body(alloc, &wrongs, facts, item.get("body")),
+    }
+}
+
 fn of_inputs(facts: &Value, place: Place, function: &Value) -> Option<(Place, WrongCount)> {
-    let body = list(facts, "bodies").get(number(function.get("body"))?)?;
+    let body = body_of(facts, function)?;
     let inputs = list(function, "inputs").len();
     let params = list(body, "params").len();
-    if inputs == params || number(body.get("self")).is_some() {
+    let params = match number(body.get("self")) {
+        None => params,
+        Some(_) => params.saturating_add(1),
+    };
+    if inputs == params {
         None
     } else {
         Some((place, WrongCount::Inputs { inputs, params }))
@@ -205,7 +303,15 @@ fn of_fn(
     if let Some(found) = of_inputs(facts, place, function) {
         return Ok(Some(found));
     }
-    let wrongs = wrongs_of(alloc, facts, list(function, "params").len())?;
+    if let Some(found) = of_self(facts, place, function) {
+        return Ok(Some(found));
+    }
+    let own = list(function, "params").len();
+    let wrongs = wrongs_of(
+        alloc,
+        facts,
+        params_there(facts, function).saturating_add(own),
+    )?;
     match of_signature(&wrongs, place, function) {
         Some(found) => Ok(Some(found)),
         None => of_body(alloc, &wrongs, facts, function.get("body")),
@@ -234,15 +340,29 @@ fn of_variant(
     let adt = number(variant.get("adt")).and_then(|adt| list(facts, "adts").get(adt));
     let Some(adt) = adt else { return Ok(None) };
     let wrongs = wrongs_of(alloc, facts, list(adt, "params").len())?;
-    Ok(of_fields(&wrongs, place, variant))
+    if let Some(found) = of_fields(&wrongs, place, variant) {
+        return Ok(Some(found));
+    }
+    if let Some(found) = of_bare(facts, place, variant) {
+        return Ok(Some(found));
+    }
+    if number(variant.get("body")).is_some() && word(adt.get("kind")) != "enum" {
+        return Ok(Some((place.key("body"), WrongCount::Discriminant)));
+    }
+    of_body(alloc, &wrongs, facts, variant.get("body"))
 }
 
 fn of_adt(place: Place, adt: &Value) -> Option<(Place, WrongCount)> {
     let count = list(adt, "variants").len();
-    if count == 1 || word(adt.get("kind")) == "enum" {
+    if count != 1 && word(adt.get("kind")) != "enum" {
+        return Some((place.key("variants"), WrongCount::Variants(count)));
+    }
+    let unsize = number(adt.get("unsize"))?;
+    let param = list(adt, "params").get(unsize);
+    if word(adt.get("kind")) == "struct" && word(param) == "t" {
         None
     } else {
-        Some((place.key("variants"), WrongCount::Variants(count)))
+        Some((place.key("unsize"), WrongCount::Unsize))
     }
 }
 
@@ -259,6 +379,7 @@ pub fn find(
         FactsList::Adts => Ok(of_adt(place, entry)),
         FactsList::Variants => of_variant(alloc, facts, place, entry),
         FactsList::Fns => of_fn(alloc, facts, place, entry),
+        FactsList::Consts | FactsList::Statics => of_value(alloc, facts, place, entry),
         _ => Ok(None),
     }
 }

@@ -1,6 +1,7 @@
 //! Law 1 at goals, traits, associated types and impls.
 
 use crate::ids::{Named, WrongId, beyond, times};
+use crate::members::{of_given_again, of_members};
 use serde_json::Value;
 use told_places::look::{items, list, number, type_id, word};
 use told_places::place::Place;
@@ -70,7 +71,7 @@ pub fn of_trait(facts: &Value, place: Place, entry: &Value) -> Option<(Place, Wr
             return Some((place.item("types", k), wrong));
         }
     }
-    None
+    of_members(facts, place, entry, "trait")
 }
 
 /// What is wrong with the ids of an associated type.
@@ -125,5 +126,5 @@ pub fn of_impl(facts: &Value, place: Place, entry: &Value) -> Option<(Place, Wro
             return Some((place.item("types", k), wrong));
         }
     }
-    None
+    of_given_again(place, entry).or(of_members(facts, place, entry, "impl"))
 }

@@ -1,6 +1,7 @@
 //! Law 1: ids that are out of range, and lists that do not agree.
 
 use crate::goal_ids::{of_alias, of_goals, of_impl, of_trait};
+use crate::members::{is_of_module, of_at, of_const, of_listers, of_value};
 use hir_facts::FactsList;
 use serde_json::Value;
 use std::alloc::{AllocError, Global};
@@ -19,6 +20,7 @@ pub enum Named {
     Variant,
     Fn,
     Trait,
+    Impl,
     Alias,
     Opaque,
     Body,
@@ -39,6 +41,7 @@ impl fmt::Display for Named {
             Named::Variant => "variant",
             Named::Fn => "fn",
             Named::Trait => "trait",
+            Named::Impl => "impl",
             Named::Alias => "associated type",
             Named::Opaque => "opaque type",
             Named::Body => "body",
@@ -59,7 +62,7 @@ impl Named {
             Named::Expr | Named::Pat | Named::Binding | Named::Label => "the body has",
             Named::Type | Named::Module | Named::Adt | Named::Variant => "the facts have",
             Named::Fn | Named::Trait | Named::Alias | Named::Body => "the facts have",
-            Named::Const | Named::Static | Named::Opaque => "the facts have",
+            Named::Impl | Named::Const | Named::Static | Named::Opaque => "the facts have",
         }
     }
 }
@@ -96,6 +99,20 @@ pub enum WrongId {
     Listed(usize),
     /// So many definitions have the body.
     Owned(usize),
+    /// A trait or an impl lists what does not stand there.
+    Elsewhere {
+        named: Named,
+        number: usize,
+    },
+    /// So many times traits and impls list a function or a constant of one of them.
+    MemberListed(usize),
+    /// An associated type that an impl gave before.
+    GivenAgain(usize),
+    /// A path names what stands in a trait or an impl.
+    OfNoModule {
+        named: Named,
+        number: usize,
+    },
     /// The constructor `Self` of an impl is named outside of it.
     OutsideImpl(usize),
 }
@@ -134,6 +151,17 @@ impl fmt::Display for WrongId {
             WrongId::Listed(times) => write!(f, "adts list it {times} times"),
             WrongId::Owned(0) => write!(f, "it is the body of no definition"),
             WrongId::Owned(times) => write!(f, "it is the body of {times} definitions"),
+            WrongId::Elsewhere { named, number } => {
+                write!(f, "{named} {number} is listed, which stands elsewhere")
+            }
+            WrongId::MemberListed(0) => write!(f, "no trait and no impl lists it"),
+            WrongId::MemberListed(times) => { write!(f, "traits and impls list it {times} times") }
+            WrongId::GivenAgain(alias) => {
+                write!(f, "associated type {alias} is given a second time")
+            }
+            WrongId::OfNoModule { named, number } => {
+                write!(f, "{named} {number} is named, which stands in no module")
+            }
             WrongId::OutsideImpl(number) => {
                 write!(
                     f,
@@ -286,9 +314,11 @@ fn of_variant(facts: &Value, place: Place, at: usize, variant: &Value) -> Option
 }
 
 fn of_fn(facts: &Value, place: Place, function: &Value) -> Option<(Place, WrongId)> {
-    let modules = list(facts, "modules").len();
     let types = list(facts, "types").len();
-    if let Some(wrong) = beyond(Named::Module, function.get("at")?.get(1usize), modules) {
+    if let Some(wrong) = of_listers(facts, "fns", place.index(), function) {
+        return Some((place, wrong));
+    }
+    if let Some(wrong) = of_at(facts, function) {
         return Some((place.key("at"), wrong));
     }
     if let Some(found) = of_goals(facts, place, function, "preds") {
@@ -329,20 +359,52 @@ fn first_beyond(nodes: Nodes<'_>, parts: &[Node]) -> Option<WrongId> {
     None
 }
 
+/// What is wrong with a function or a constant that a path names.
+fn of_item(facts: &Value, named: Named, key: &str, number: usize) -> Option<WrongId> {
+    let items = list(facts, key);
+    match items.get(number) {
+        Some(item) if !is_of_module(item) => Some(WrongId::OfNoModule { named, number }),
+        _ => beyond_count(named, number, items.len()),
+    }
+}
+
+/// Whether a body is that of a function or a constant of an impl.
+fn is_in_impl(facts: &Value, body: usize, wanted: usize) -> bool {
+    for key in ["fns", "consts"] {
+        for item in list(facts, key) {
+            let at = item.get("at");
+            let named = at.and_then(|at| at.get(1usize));
+            if number(item.get("body")) == Some(body)
+                && word(at) == "impl"
+                && number(named) == Some(wanted)
+            {
+                return true;
+            }
+        }
+    }
+    false
+}
+
 /// What a node names that is out of range.
-fn of_mention(facts: &Value, body: &Value, mention: Mention) -> Option<WrongId> {
+fn of_mention(facts: &Value, index: usize, body: &Value, mention: Mention) -> Option<WrongId> {
     let (named, number, count) = match mention {
         Mention::Type(ty) => (Named::Type, ty, list(facts, "types").len()),
         Mention::Local(v) | Mention::Binds(v) => (Named::Binding, v, list(body, "bindings").len()),
-        Mention::Function(function) => (Named::Fn, function, list(facts, "fns").len()),
+        Mention::Function(function) => return of_item(facts, Named::Fn, "fns", function),
         Mention::Variant(variant) => (Named::Variant, variant, list(facts, "variants").len()),
-        Mention::Const(item) => (Named::Const, item, list(facts, "consts").len()),
+        Mention::Const(item) => return of_item(facts, Named::Const, "consts", item),
         Mention::Static(item) => (Named::Static, item, list(facts, "statics").len()),
         Mention::Trait(item) => (Named::Trait, item, list(facts, "traits").len()),
         Mention::Label(label) | Mention::Left(label) => {
             (Named::Label, label, number(body.get("labels"))?)
         }
-        Mention::Impl(number) => return Some(WrongId::OutsideImpl(number)),
+        Mention::Impl(number) => {
+            return if is_in_impl(facts, index, number) {
+                None
+            } else {
+                Some(WrongId::OutsideImpl(number))
+            };
+        }
         Mention::Param(_) | Mention::List(_) => return None,
     };
     beyond_count(named, number, count)
@@ -352,11 +414,12 @@ fn of_mention(facts: &Value, body: &Value, mention: Mention) -> Option<WrongId> 
 fn of_names(
     alloc: Global,
     facts: &Value,
+    index: usize,
     nodes: Nodes<'_>,
     node: Node,
 ) -> Result<Option<WrongId>, AllocError> {
     for mention in nodes.mentions(alloc, node)? {
-        if let Some(wrong) = of_mention(facts, nodes.body, mention) {
+        if let Some(wrong) = of_mention(facts, index, nodes.body, mention) {
             return Ok(Some(wrong));
         }
     }
@@ -365,11 +428,10 @@ fn of_names(
 
 /// What of the body's own is out of range.
 fn of_head(facts: &Value, place: Place, body: &Value) -> Option<(Place, WrongId)> {
-    let owned = times_under(list(facts, "fns"), "body", place.index()).saturating_add(times_under(
-        list(facts, "variants"),
-        "body",
-        place.index(),
-    ));
+    let mut owned = 0usize;
+    for key in ["fns", "variants", "consts", "statics"] {
+        owned = owned.saturating_add(times_under(list(facts, key), "body", place.index()));
+    }
     if owned != 1 {
         return Some((place, WrongId::Owned(owned)));
     }
@@ -414,7 +476,7 @@ fn of_body(
     for position in 0..nodes.count() {
         let node = nodes.at(position);
         let parts = nodes.parts(alloc, node)?;
-        let named = of_names(alloc, facts, nodes, node)?;
+        let named = of_names(alloc, facts, place.index(), nodes, node)?;
         if let Some(wrong) = first_beyond(nodes, &parts).or(named) {
             return Ok(Some((nodes.place(place, node), wrong)));
         }
@@ -443,6 +505,8 @@ pub fn find(
         },
         FactsList::Variants => of_variant(facts, place, index, entry),
         FactsList::Fns => of_fn(facts, place, entry),
+        FactsList::Consts => of_const(facts, place, entry),
+        FactsList::Statics => of_value(facts, place, entry),
         FactsList::Traits => of_trait(facts, place, entry),
         FactsList::Aliases => of_alias(facts, place, entry),
         FactsList::Impls => of_impl(facts, place, entry),

@@ -5,3 +5,4 @@ pub mod carried;
 pub mod counts;
 pub mod goal_ids;
 pub mod ids;
+pub mod members;

@@ -1,0 +1,8 @@
+use Rattle.std.proofs.Common.{◌≡◌, ◌∙◌, ap}
+use Rattle.hir_ids.specs.Words.hir_facts.Members.{listed_consts}
+use Rattle.hir_ids.proofs.ids.ConstIds.new.Goals as goal
+
+pub returns : goal.returns
+returns c =
+    let is : c.deref.result.now ≡ listed_consts c.args.raw.now = c.deref.ensures.value ∙ c.in_ok-listed.ensures in
+    rw (← is, ← c.len.ensures) c.in_ok-listers.ensures

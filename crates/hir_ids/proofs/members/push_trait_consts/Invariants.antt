@@ -1,0 +1,7 @@
+use Rattle.std.proofs.Common.{◌≡◌, ◌++◌, take}
+use Rattle.std.specs.List.{flat_map}
+use Rattle.hir_ids.specs.Words.hir_facts.Members.{trait_consts}
+use Rattle.hir_ids.proofs.members.push_trait_consts.Given as goal
+
+abbrev pub invariant-loop-item : goal.invariant-loop-item
+invariant-loop-item l = l.out.items ≡ l.fn.out.items ++ flat_map trait_consts (take l.item-index l.traits)
