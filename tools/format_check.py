@@ -2,7 +2,7 @@
 """Asks the program for each example of docs/FORMAT.md: that it has the form beside it, and is carried or refused as its row says.
 
 The blocks of `json` that are named by a list of the facts are, with the examples of the first table, the facts in which the examples of
-all other tables stand. An example is put into these at a place of its kind, in a body of its own where it is of bodies, with a leaf for
+all other tables stand. A block that is named by a law has entries that are added to the lists of these, which the law refuses. An example is put into these at a place of its kind, in a body of its own where it is of bodies, with a leaf for
 each expression and pattern that it names.
 Usage: tools/format_check.py [--program PATH | --unproved]
 Build the program first: cd crates/infer_tool && rt run -- table fn 0 < ../../examples/first_run.json
@@ -45,6 +45,14 @@ OWN = ("expression", "pattern", "binding", "label")
 LEAF = ["lit", ["int", "1", "u8"]]
 
 
+class Entries:
+    """Entries that a law refuses: the line, the law, and the lists to which they are added."""
+
+    def __init__(self, at, law, lists):
+        self.at, self.lists = at, lists
+        self.refused = [law]
+
+
 class Row:
     """A row of a table: the line, what it is a table of, the form, the example, and whether that is carried."""
 
@@ -62,19 +70,23 @@ def parsed(cell):
 
 
 def read_document():
-    """The rows of the tables with examples, and the facts in which these stand."""
-    rows, facts, table, block = [], {}, None, None
+    """The rows of the tables with examples, the facts in which these stand, and the entries that laws refuse."""
+    rows, facts, refused, table, block = [], {}, [], None, None
     for at, line in enumerate(open(DOCUMENT, encoding="utf-8"), 1):
         line = line.rstrip("\n")
-        start = re.fullmatch(r"```json (\w+)", line)
+        start = re.fullmatch(r"```json (\w+|law \d)", line)
         cells = [cell.strip().replace("\\|", "|") for cell in re.split(r"(?<!\\)\|", line)[1:-1]]
         if start:
-            block = (start[1], [])
+            block = (at, start[1], [])
         elif block and line == "```":
-            facts[block[0]] = json.loads("\n".join(block[1]))
+            value = json.loads("\n".join(block[2]))
+            if block[1].startswith("law "):
+                refused.append(Entries(block[0], block[1], value))
+            else:
+                facts[block[1]] = value
             block = None
         elif block:
-            block[1].append(line)
+            block[2].append(line)
         elif not cells:
             table = None
         elif table is None:
@@ -84,7 +96,7 @@ def read_document():
             facts.update({key: json.loads(cells[-1].strip("`")) for key in re.findall(r"`(\w+)`", cells[0])})
         elif table and not in_front and not set(cells[0]) <= {"-"}:
             rows.append(Row(at, table, cells))
-    return rows, facts
+    return rows, facts, refused
 
 
 class Reading:
@@ -183,6 +195,11 @@ def with_goal(facts, value):
     return dict(facts, fns=[dict(function, preds=function["preds"] + [value])])
 
 
+def with_entries(facts, lists):
+    """The facts with more entries."""
+    return dict(facts, **{key: facts[key] + entries for key, entries in lists.items()})
+
+
 def text_of(facts, row, named):
     """The text in which the program is asked for an example."""
     if row.table == "Type":
@@ -221,8 +238,9 @@ def main():
         sys.exit("format_check.py: %s" % why)
     if path is None:
         sys.exit("format_check.py: no build without proof is kept: build the program (README)")
-    rows, facts = read_document()
+    rows, facts, refused = read_document()
     wrong, asked = [], [(None, json.dumps(facts))]
+    asked += [(entries, json.dumps(with_entries(facts, entries.lists))) for entries in refused]
     for row in rows:
         reading = Reading(rows)
         if not reading.has_form(row.example, row.form):

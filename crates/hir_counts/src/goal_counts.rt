@@ -2,11 +2,12 @@
 ghost use Rattle.std.specs.Prelude.{◌≡◌, ◌↔◌, ◌+◌, ℕ, Some, length, slice_get, IsTrue, IfSome};
 ghost use Rattle.hir_counts.specs.Words.{RawGoal, RawAssocType, param_bound, wrong_args, trait_params, ArgsFit, GoalFits, GoalsFit, TypeFits, TraitFitsBy, TraitFits, AliasFitsBy, AliasFits, ImplTraitFits, ImplFitsBy, ImplFits};
 ghost use Rattle.hir_counts.specs.Own.{number_in, AreMosts};
-ghost use Rattle.hir_counts.specs.Words.hir_facts.Counts.{alias_params};
+ghost use Rattle.hir_counts.specs.Words.hir_facts.Counts.{agrees_with_trait, agrees_after_self, agrees_with_alias};
 
 use crate::counts::{Standing, are_fitting, fits};
+use crate::standing::{agree_after_self, agree_with_trait, are_no_params};
 use hir_ids::Test;
-use hir_raw::{RawAlias, RawAssocType, RawFacts, RawGoal, RawImpl, RawTrait, RawTraitRef};
+use hir_raw::{RawAlias, RawArgs, RawAssocType, RawFacts, RawGoal, RawImpl, RawTrait, RawTraitRef};
 use hir_types::{TraitId, TypeAliasId, TypeRefId};
 use std::alloc::{AllocError, Global};
 
@@ -20,19 +21,43 @@ pub fn trait_params(raw: &RawFacts, id: TraitId) -> usize
     }
 }
 
-fn alias_params(raw: &RawFacts, alias: TypeAliasId) -> usize
-    ensures { result ≡ alias_params raw.now (slice_get raw.now.aliases alias.0) }
+fn agrees_with_trait(raw: &RawFacts, id: TraitId, args: &RawArgs) -> bool
+    ensures { result ≡ agrees_with_trait (slice_get raw.now.traits id.0) args.now }
 {
-    match raw.aliases.get(alias.0 as usize) {
-        None => 0,
-        Some(alias) => trait_params(raw, alias.trait_),
+    match args {
+        RawArgs::Types(types) => trait_params(raw, id) == types.len(),
+        RawArgs::Later(later) => {
+            agree_after_self(raw, id, later.kinds.as_slice())
+                && are_no_params(later.consts.as_slice())
+        }
     }
 }
 
-fn args_fit(standing: &Standing, count: usize, params: usize, args: &[TypeRefId]) -> bool
-    ensures { IsTrue result ↔ ArgsFit (number_in standing.now.bounds.items) (number_in standing.now.wrongs.items) count params args.now }
+fn agrees_after_self(raw: &RawFacts, id: TraitId, args: &RawArgs) -> bool
+    ensures { result ≡ agrees_after_self (slice_get raw.now.traits id.0) args.now }
 {
-    args.len() == params && are_fitting(standing, count, args)
+    match args {
+        RawArgs::Types(types) => trait_params(raw, id) == types.len() + 1,
+        RawArgs::Later(later) => {
+            agree_with_trait(raw, id, later.kinds.as_slice())
+                && are_no_params(later.consts.as_slice())
+        }
+    }
+}
+
+fn agrees_with_alias(raw: &RawFacts, alias: TypeAliasId, args: &RawArgs) -> bool
+    ensures { result ≡ agrees_with_alias raw.now (slice_get raw.now.aliases alias.0) args.now }
+{
+    match raw.aliases.get(alias.0 as usize) {
+        None => false,
+        Some(alias) => agrees_with_trait(raw, alias.trait_, args),
+    }
+}
+
+fn args_fit(standing: &Standing, count: usize, agree: bool, types: &[TypeRefId]) -> bool
+    ensures { IsTrue result ↔ ArgsFit (number_in standing.now.bounds.items) (number_in standing.now.wrongs.items) count agree types.now }
+{
+    agree && are_fitting(standing, count, types)
 }
 
 fn goal_fits(standing: &Standing, raw: &RawFacts, count: usize, goal: &RawGoal) -> bool
@@ -40,12 +65,12 @@ fn goal_fits(standing: &Standing, raw: &RawFacts, count: usize, goal: &RawGoal) 
 {
     match goal {
         RawGoal::Trait(trait_ref) => {
-            let params = trait_params(raw, trait_ref.trait_);
-            args_fit(standing, count, params, trait_ref.args.types())
+            let agree = agrees_with_trait(raw, trait_ref.trait_, &trait_ref.args);
+            args_fit(standing, count, agree, trait_ref.args.types())
         }
         RawGoal::Projection { alias, args, ty } => {
-            let params = alias_params(raw, *alias);
-            args_fit(standing, count, params, args.types()) && fits(standing, count, *ty)
+            let agree = agrees_with_alias(raw, *alias, args);
+            args_fit(standing, count, agree, args.types()) && fits(standing, count, *ty)
         }
     }
 }
@@ -81,8 +106,8 @@ fn impl_trait_fits(
 ) -> bool
     ensures { IsTrue result ↔ ImplTraitFits (number_in standing.now.bounds.items) (number_in standing.now.wrongs.items) raw.now count trait_ref.now }
 {
-    let args = trait_ref.args.types();
-    args.len() + 1 == trait_params(raw, trait_ref.trait_) && are_fitting(standing, count, args)
+    let agree = agrees_after_self(raw, trait_ref.trait_, &trait_ref.args);
+    args_fit(standing, count, agree, trait_ref.args.types())
 }
 
 fn maybe_trait_fits(

@@ -6,7 +6,8 @@ ghost use Rattle.hir_counts.specs.Own.{AreMeasures};
 use crate::goal_sizes::goals_are_short;
 use hir_ids::Test;
 use hir_raw::{
-    Former, Mention, RawAdt, RawConstItem, RawFacts, RawFn, RawPrincipal, RawStatic, RawType, RawVariant,
+    Former, Mention, RawAdt, RawConstItem, RawFacts, RawFn, RawPrincipal, RawStatic, RawType,
+    RawVariant,
 };
 use hir_types::{List, ModuleId, TraitId, TypeAliasId, TypeRefId};
 use std::alloc::{AllocError, Global};

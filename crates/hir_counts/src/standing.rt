@@ -72,7 +72,8 @@ fn agree_with_adt(raw: &RawFacts, adt: AdtId, kinds: &[ArgKind]) -> bool
     }
 }
 
-fn agree_with_trait(raw: &RawFacts, id: TraitId, kinds: &[ArgKind]) -> bool
+/// Whether arguments are of the kinds of a trait's parameters, without the self type.
+pub fn agree_with_trait(raw: &RawFacts, id: TraitId, kinds: &[ArgKind]) -> bool
     ensures { result ≡ agree_with_trait (slice_get raw.now.traits id.0) kinds.now }
 {
     match raw.traits.get(id.0 as usize) {
@@ -81,14 +82,13 @@ fn agree_with_trait(raw: &RawFacts, id: TraitId, kinds: &[ArgKind]) -> bool
     }
 }
 
-fn agree_after_self(raw: &RawFacts, id: TraitId, kinds: &[ArgKind]) -> bool
+/// Whether arguments are of the kinds of a trait's parameters, the self type first.
+pub fn agree_after_self(raw: &RawFacts, id: TraitId, kinds: &[ArgKind]) -> bool
     ensures { result ≡ agree_after_self (slice_get raw.now.traits id.0) kinds.now }
 {
     match kinds.split_first() {
         None => false,
-        Some((first, rest)) => {
-            is_for(RawParam::Type, *first) && agree_with_trait(raw, id, rest)
-        }
+        Some((first, rest)) => { is_for(RawParam::Type, *first) && agree_with_trait(raw, id, rest) }
     }
 }
 
@@ -133,7 +133,8 @@ fn is_no_param(value: RawConst) -> bool
     }
 }
 
-fn are_no_params(consts: &[RawConst]) -> bool
+/// Whether no const is a parameter.
+pub fn are_no_params(consts: &[RawConst]) -> bool
     ensures { result ≡ list_all is_no_param consts.now }
 {
     consts.iter().all(|value| is_no_param(*value))

@@ -1,13 +1,15 @@
 -- A function has as many inputs as its body has parameters, `self` counted; what is written fits the
 -- parameters in scope; a struct or union has one variant; goals have as many arguments as their traits parameters.
-use Rattle.std.specs.Prelude.{ℕ, ◌+◌, ◌<◌, ◌≤◌, ◌≡◌, ◌&&◌, ◌||◌, Bool, true, false, not, IsTrue, [], List, length, slice_get, Option, Some, None, is_none, IfSome}
-use Rattle.hir_facts.specs.Words.{BindingId, BodyId, TypeRefId, RawAdtKind, RawAdt, RawField, RawTraitRef, RawGoal, RawTrait, RawAlias, RawAssocType, RawImpl, RawVariant, RawFn, RawAt, RawConstItem, RawStatic, RawBody, RawParam, RawFacts, RawConst, arg_types, Mention, AllMentioned}
+use Rattle.std.specs.Prelude.{ℕ, ◌+◌, ◌<◌, ◌≤◌, ◌≡◌, ◌==◌, ◌&&◌, ◌||◌, Bool, true, false, not, IsTrue, [], List, length, slice_get, Option, Some, None, is_none, IfSome}
+use Rattle.std.specs.List.{list_all}
+use Rattle.hir_facts.specs.Words.{BindingId, BodyId, TypeRefId, RawAdtKind, RawAdt, RawField, RawTraitRef, RawGoal, RawTrait, RawAlias, RawAssocType, RawImpl, RawVariant, RawFn, RawAt, RawConstItem, RawStatic, RawBody, RawParam, RawArgs, RawFacts, RawConst, arg_types, Mention, AllMentioned}
 use Rattle.hir_raw.specs.declared.raw.RawAdtKind.TheVariants as kind
+use Rattle.hir_raw.specs.declared.raw.RawArgs.TheVariants as args
 use Rattle.hir_raw.specs.declared.raw.RawGoal.TheVariants as goal
 use Rattle.hir_raw.specs.declared.raw.RawAt.TheVariants as stands
 use Rattle.hir_raw.specs.declared.mention.Mention.TheVariants as it
 use Rattle.hir_raw.specs.declared.later.RawConst.TheVariants as constant
-use Rattle.hir_facts.specs.Standing.{params_in, wrongs_in}
+use Rattle.hir_facts.specs.Standing.{params_in, wrongs_in, agree_after_self, agree_with_trait, is_no_param}
 use Rattle.hir_facts.specs.Carried.{is_empty, is_in_module, is_type_param}
 
 abbrev pub count_of : Option BindingId → ℕ
@@ -76,22 +78,33 @@ abbrev pub trait_params : Option RawTrait → ℕ
 trait_params None = 0
 trait_params (Some t) = length t.params + 1
 
--- an associated type's parameters are those of its trait
-abbrev pub alias_params : RawFacts → Option RawAlias → ℕ
-alias_params raw None = 0
-alias_params raw (Some a) = trait_params (slice_get raw.traits a.trait_.0)
+-- arguments are as many as the parameters in scope in a trait; where some are consts, each is of its parameter's kind too, and no const
+-- is a parameter
+abbrev pub agrees_with_trait : Option RawTrait → RawArgs → Bool
+agrees_with_trait t (args.Types ts) = trait_params t == length ts
+agrees_with_trait t (args.Later x) = agree_after_self t x.kinds && list_all is_no_param x.consts
 
--- arguments are as many as the parameters of what is named, and each fits
-pub record ArgsFit (bounds wrongs : ℕ → ℕ) (count params : ℕ) (ts : List TypeRefId) : Type 0 where
-  pub many : length ts ≡ params
+-- so are they without the self type
+abbrev pub agrees_after_self : Option RawTrait → RawArgs → Bool
+agrees_after_self t (args.Types ts) = trait_params t == length ts + 1
+agrees_after_self t (args.Later x) = agree_with_trait t x.kinds && list_all is_no_param x.consts
+
+-- an associated type's parameters are those of its trait
+abbrev pub agrees_with_alias : RawFacts → Option RawAlias → RawArgs → Bool
+agrees_with_alias raw None xs = false
+agrees_with_alias raw (Some a) xs = agrees_with_trait (slice_get raw.traits a.trait_.0) xs
+
+-- arguments agree with the parameters of what is named, and the types among them fit
+pub record ArgsFit (bounds wrongs : ℕ → ℕ) (count : ℕ) (agreed : Bool) (ts : List TypeRefId) : Type 0 where
+  pub agree : IsTrue agreed
   pub each : AreFitting bounds wrongs count ts
 
 -- a goal under this many parameters
 abbrev pub GoalFits : (bounds wrongs : ℕ → ℕ) → RawFacts → ℕ → RawGoal → Type 0
 GoalFits bounds wrongs raw count (goal.Trait r) =
-    ArgsFit bounds wrongs count (trait_params (slice_get raw.traits r.trait_.0)) (arg_types r.args)
+    ArgsFit bounds wrongs count (agrees_with_trait (slice_get raw.traits r.trait_.0) r.args) (arg_types r.args)
 GoalFits bounds wrongs raw count (goal.Projection a xs t) =
-    ArgsFit bounds wrongs count (alias_params raw (slice_get raw.aliases a.0)) (arg_types xs)
+    ArgsFit bounds wrongs count (agrees_with_alias raw (slice_get raw.aliases a.0) xs) (arg_types xs)
     × TypeFits bounds wrongs count t
 
 abbrev pub GoalsFit : (bounds wrongs : ℕ → ℕ) → RawFacts → ℕ → List RawGoal → Type 0
@@ -113,9 +126,9 @@ abbrev pub AliasFits : RawFacts → RawAlias → Type 0
 AliasFits raw a = AliasFitsBy (params_in raw) (wrongs_in raw) raw a
 
 -- the arguments of the trait that is implemented come after the self type
-pub record ImplTraitFits (bounds wrongs : ℕ → ℕ) (raw : RawFacts) (count : ℕ) (r : RawTraitRef) : Type 0 where
-  pub many : length (arg_types r.args) + 1 ≡ trait_params (slice_get raw.traits r.trait_.0)
-  pub each : AreFitting bounds wrongs count (arg_types r.args)
+abbrev pub ImplTraitFits : (bounds wrongs : ℕ → ℕ) → RawFacts → ℕ → RawTraitRef → Type 0
+ImplTraitFits bounds wrongs raw count r =
+    ArgsFit bounds wrongs count (agrees_after_self (slice_get raw.traits r.trait_.0) r.args) (arg_types r.args)
 
 -- what an impl is written with, under its parameters
 pub record ImplFitsBy (bounds wrongs : ℕ → ℕ) (raw : RawFacts) (p : RawImpl) : Type 0 where

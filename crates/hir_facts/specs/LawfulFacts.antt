@@ -1,12 +1,12 @@
 -- What laws say of lawful facts, list by list.
-use Rattle.std.specs.Prelude.{IsTrue, Bool, true, ◌&&◌, ◌≡◌, ◌+◌, ℕ, length, slice_get, Some, refl}
+use Rattle.std.specs.Prelude.{IsTrue, Bool, true, ◌&&◌, ◌≡◌, ◌+◌, ℕ, zero, suc, List, [], ◌∷◌, length, slice_get, Some, refl}
 use Rattle.std.specs.List.{list_all}
 use Rattle.std.proofs.Common.{subst, arith}
-use Rattle.std.specs.Cmp.{first_so}
-use Rattle.hir_facts.specs.Words.{RawFacts, RawFn, RawAt}
+use Rattle.std.specs.Cmp.{first_so, second_so}
+use Rattle.hir_facts.specs.Words.{RawFacts, RawAdt, RawFn, RawImpl, RawGoal, RawAt}
 use Rattle.hir_raw.specs.declared.raw.RawAt.TheVariants as stands
 use Rattle.hir_facts.specs.Entries.{AllHold}
-use Rattle.hir_facts.specs.Carried.{is_carried_written_type, is_carried_variant, is_carried_fn, is_in_module}
+use Rattle.hir_facts.specs.Carried.{is_carried_written_type, is_carried_goal, is_carried_kind, is_carried_adt, is_carried_variant, is_carried_fn, is_carried_impl, has_carried_trait, is_type_param, is_in_module}
 use Rattle.hir_facts.specs.Projections.{VariantIsCarried}
 use Rattle.hir_facts.specs.GoalIds.{TraitIdsExist, AliasIdsExist, ImplIdsHere, ImplIdsExist}
 use Rattle.hir_facts.specs.Ids.{ChildrenBefore, TypeIdsExist, AdtIdsExist, VariantIdsExist, FnIdsHere, FnIdsExist, BodyIdsExist}
@@ -28,6 +28,12 @@ carried_variants raw law = law.all.1.1.1.1.1.1.1.1.1.1.1.1.1.1.1.1.1.1.1.1.1.1.1
 
 pub fns_carried : (raw : RawFacts) → IsLawful raw → AllHold (λ i f. IsTrue (is_carried_fn f)) raw.fns
 fns_carried raw law = law.all.1.1.1.1.1.1.1.1.1.1.1.1.1.1.1.1.1.1.1.1.1.1.1.1.1.1.1.1.1.1.1.1.1.1.1.1.1.1.1.1.1.1.1.0
+
+pub adts_carried : (raw : RawFacts) → IsLawful raw → AllHold (λ i a. IsTrue (is_carried_adt a)) raw.adts
+adts_carried raw law = law.all.1.1.1.1.1.1.1.1.1.1.1.1.1.1.1.1.1.1.1.1.1.1.1.1.1.1.1.1.1.1.1.1.1.1.1.1.1.1.1.1.1.0
+
+pub impls_carried : (raw : RawFacts) → IsLawful raw → AllHold (λ i p. IsTrue (is_carried_impl p)) raw.impls
+impls_carried raw law = law.all.1.1.1.1.1.1.1.1.1.1.1.1.1.1.1.1.1.1.1.1.1.1.1.1.1.1.1.1.1.1.1.1.1.1.1.1.1.1.1.1.1.1.1.1.1.1.1.1.0
 
 pub type_ids_exist : (raw : RawFacts) → IsLawful raw → AllHold (TypeIdsExist raw) raw.types
 type_ids_exist raw law = law.all.0
@@ -121,3 +127,33 @@ fns_fit raw law i f found =
 
 pub counts_fit : (raw : RawFacts) → IsLawful raw → AllHold (λ i f. CountsFit raw f) raw.fns
 counts_fit raw law i f found = (fns_fit_there raw law i f found).counts
+
+-- ---- arguments of goals are types
+
+goals_at : (gs : List RawGoal) (k : ℕ) (g : RawGoal) → IsTrue (list_all is_carried_goal gs) → slice_get gs k ≡ Some g → IsTrue (is_carried_goal g)
+goals_at [] k g all here = absurd (cc)
+goals_at (x ∷ xs) zero g all here =
+    let same : x ≡ g = cc in
+    subst (λ (y : RawGoal). IsTrue (is_carried_goal y)) same (first_so (is_carried_goal x) (list_all is_carried_goal xs) all)
+goals_at (x ∷ xs) (suc k) g all here = goals_at xs k g (second_so (is_carried_goal x) (list_all is_carried_goal xs) all) here
+
+pub adt_goals : (raw : RawFacts) → IsLawful raw → (i : ℕ) (a : RawAdt) → slice_get raw.adts i ≡ Some a
+    → (k : ℕ) (g : RawGoal) → slice_get a.preds k ≡ Some g → IsTrue (is_carried_goal g)
+adt_goals raw law i a found k g here =
+    let after_kind = second_so (is_carried_kind a.kind) _ (adts_carried raw law i a found) in
+    let after_params = second_so (list_all is_type_param a.params) _ after_kind in
+    goals_at a.preds k g (first_so (list_all is_carried_goal a.preds) _ after_params) here
+
+pub fn_goals : (raw : RawFacts) → IsLawful raw → (i : ℕ) (f : RawFn) → slice_get raw.fns i ≡ Some f
+    → (k : ℕ) (g : RawGoal) → slice_get f.preds k ≡ Some g → IsTrue (is_carried_goal g)
+fn_goals raw law i f found k g here =
+    let after_place = second_so (is_in_module f.«at») _ (fns_carried raw law i f found) in
+    let after_params = second_so (list_all is_type_param f.params) _ after_place in
+    goals_at f.preds k g (first_so (list_all is_carried_goal f.preds) _ after_params) here
+
+pub impl_goals : (raw : RawFacts) → IsLawful raw → (i : ℕ) (p : RawImpl) → slice_get raw.impls i ≡ Some p
+    → (k : ℕ) (g : RawGoal) → slice_get p.preds k ≡ Some g → IsTrue (is_carried_goal g)
+impl_goals raw law i p found k g here =
+    let after_trait = second_so (has_carried_trait p.trait_) _ (impls_carried raw law i p found) in
+    let after_params = second_so (list_all is_type_param p.params) _ after_trait in
+    goals_at p.preds k g (first_so (list_all is_carried_goal p.preds) _ after_params) here

@@ -11,7 +11,7 @@ pub use Rattle.hir_facts.specs.GoalIds.{AliasIdsExist, AliasIdsHere, GoalExists,
 pub use Rattle.hir_facts.specs.Ids.{AdtIdsExist, AliasesExist, BodyIdsExist, ChildrenBefore, DynExists, Exists, FieldIdsExist, ConstIdsExist, ConstIdsHere, FnIdsExist, FnIdsHere, FormerExists, HasOneOwner, IsModuleConst, IsModuleFn, IsVariantOf, ItemExists, ParentBefore, PlaceExists, PrincipalExists, StaticIdsExist, TraitsExist, TypeIdsExist, VariantIdsExist, VariantIdsHere, VisExists, adt_variants, listed_variants, owned_bodies, owned_body, variant_body}
 pub use Rattle.hir_facts.specs.Lang.{HasNoParams, LangFits}
 pub use Rattle.hir_facts.specs.Lawful.{FirstBroken, IsLawful, PassesAll, Test, abstract_tests, carried_tests, counts_tests, holes_tests, ids_tests, item_tests, lang_tests, limits_tests, literals_tests, says, scopes_tests, sizes_tests, tests, trees_tests, unread_tests}
-pub use Rattle.hir_facts.specs.LawfulFacts.{adt_ids, adts_fit, alias_ids, aliases_fit, bodies_small, bodies_well_formed, body_ids, carried_variants, counts_fit, fn_ids, fns_carried, fns_exist, fns_fit, fns_fit_there, holes_fit, impl_ids, impls_exist, impls_fit, limits_in_range, literals_fit, scopes_hold, trait_ids, traits_fit, type_ids, type_ids_exist, types_carried, types_small, variant_ids, variants_carried, variants_fit}
+pub use Rattle.hir_facts.specs.LawfulFacts.{adt_goals, adt_ids, adts_carried, adts_fit, alias_ids, aliases_fit, bodies_small, bodies_well_formed, body_ids, carried_variants, counts_fit, fn_goals, fn_ids, fns_carried, fns_exist, fns_fit, fns_fit_there, holes_fit, impl_goals, impl_ids, impls_carried, impls_exist, impls_fit, limits_in_range, literals_fit, scopes_hold, trait_ids, traits_fit, type_ids, type_ids_exist, types_carried, types_small, variant_ids, variants_carried, variants_fit}
 pub use Rattle.hir_facts.specs.LetFits.{AllFit, FitsHere, masked_before, masked_fit, written_fit}
 pub use Rattle.hir_facts.specs.Limits.{IsInRange, limits_of, most_at}
 pub use Rattle.hir_facts.specs.Literals.{DotsFit, IsAnyLiteral, IsAssigned, IsEnd, IsInBits, IsLiteral, IsPatternOf, IsSignedInBits, LaterDotsFit, LiteralsFit, MayHaveMinus, and_digit, assigned_below, assigned_here, value_of, without_minus}

@@ -1,15 +1,18 @@
 -- Goals that the nodes of a typed body need fit, and so does what these read as.
-use Rattle.std.specs.Prelude.{◌≡◌, ◌<◌, ◌+◌, ◌==◌, ℕ, zero, suc, true, List, [], ◌∷◌, length, map, slice_get, Option, Some, None, option_map, refl}
+use Rattle.std.specs.Prelude.{◌≡◌, ◌<◌, ◌+◌, ◌==◌, ℕ, zero, suc, true, IsTrue, List, [], ◌∷◌, length, map, slice_get, Option, Some, None, option_map, refl}
 use Rattle.std.proofs.Common.{arith, sym, ap, ◌∙◌, subst, true≢false}
-use Rattle.infer_needs.specs.Words.{DefWithBodyId, ExprOrPatId, GenericDefId, TypeAliasId, TypeRefId, AliasBound, GenericArg, GenericArg-F, out-GenericArg, roll-out-GenericArg, TraitRef, Ty, Ty-F, out-Ty, roll-out-Ty, arg_as_type, in_arg, in_ty, Term, hole, leaf, pair, chain, arg_step, ty_step, term, arg_term, terms, term_at, arg_term_at, term_error, RawAdt, RawBody, RawExpr, RawFacts, RawFn, RawGoal, RawPath, RawTrait, RawType, RawVariant, arg_types, fn_aliases, variant_aliases, scope_of, params_of, adt_params, alias_params, alias_params_by, has_params, count_or_none, generic_params, AllHold, GoalExists, AliasIdsExist, params_in, wrongs_in, wrong_args, IsLawful, adt_ids, fn_ids, fns_fit, variants_fit, plain, role, ReadsAs, Kind, implements, projects, Asked, System, Each, answers, args_at, goal_at, preds_or_none, IsSystemOf, InferenceResult, alias_goals_by, alias_goals_from, fn_alias_goals, variant_alias_goals, path_alias_goals, alias_goals, variant_preds, path_preds, expr_preds, item_args, item_path, needed_goals, needs_of, pat_needs_by, pat_needs_of, node_needs, GoalReads, recorded, IsTableOf, width, RawImpl}
+use Rattle.infer_needs.specs.Words.{DefWithBodyId, ExprOrPatId, GenericDefId, TypeAliasId, AliasBound, GenericArg, GenericArg-F, out-GenericArg, roll-out-GenericArg, TraitRef, Ty, Ty-F, out-Ty, roll-out-Ty, arg_as_type, in_arg, in_ty, Term, hole, leaf, pair, chain, arg_step, ty_step, term, arg_term, terms, term_at, arg_term_at, term_error, RawAdt, RawAlias, RawBody, RawExpr, RawFacts, RawFn, RawGoal, RawPath, RawTrait, RawType, RawVariant, arg_types, fn_aliases, variant_aliases, scope_of, params_of, adt_params, alias_params, alias_params_by, has_params, count_or_none, generic_params, AllHold, GoalExists, AliasIdsExist, params_in, wrongs_in, wrong_args, IsLawful, adt_ids, fn_ids, fns_fit, variants_fit, plain, role, ReadsAs, Kind, implements, projects, Asked, System, Each, answers, args_at, goal_at, preds_or_none, IsSystemOf, InferenceResult, alias_goals_by, alias_goals_from, fn_alias_goals, variant_alias_goals, path_alias_goals, alias_goals, variant_preds, path_preds, expr_preds, item_args, item_path, needed_goals, needs_of, pat_needs_by, pat_needs_of, node_needs, GoalReads, recorded, IsTableOf, width, RawImpl}
 use Rattle.infer_needs.specs.Words.hir_facts.LawfulFacts as lawful
 use Rattle.hir_types.specs.declared.ids.ExprOrPatId.TheVariants as node
 use Rattle.hir_types.specs.declared.head.Head.TheVariants as head
 use Rattle.hir_types.specs.Assigned.{type_of}
 use Rattle.infer_needs.specs.Words.hir_raw.declared.raw.RawExpr.TheVariants as expr
+use Rattle.infer_needs.specs.Words.hir_raw.declared.raw.RawArgs.{RawArgs}
+use Rattle.infer_needs.specs.Words.hir_raw.declared.raw.RawArgs.TheVariants as args
 use Rattle.infer_needs.specs.Words.hir_raw.declared.raw.RawGoal.TheVariants as goal
 use Rattle.infer_needs.specs.Words.hir_raw.declared.raw.RawPath.TheVariants as path
 use Rattle.infer_needs.specs.Words.hir_raw.declared.raw.RawType.TheVariants as type
+use Rattle.infer_needs.specs.Words.hir_facts.Carried.{is_carried_args, is_carried_goal}
 use Rattle.infer_needs.specs.Words.hir_facts.Counts as counts
 use Rattle.infer_needs.specs.Words.goal_answers.Reading.{Role}
 use Rattle.infer_needs.proofs.Words.{ReadsBy, each_append}
@@ -41,25 +44,25 @@ there [] i lt = absurd (omega (arith, lt))
 there (x ∷ xs) zero lt = (x, refl)
 there (x ∷ xs) (suc i) lt = there xs i (omega (arith, lt))
 
-same_test : (m n : ℕ) → m ≡ n → (n == m) ≡ true
-same_test m n is = grind arith
-
 module _ (raw : RawFacts) (law : IsLawful raw) where
   aliases_exist : AllHold (AliasIdsExist raw) raw.aliases
   aliases_exist = lawful.alias_ids raw law
 
-  many_taken : (k : TypeAliasId) (ws : List TypeRefId) → k.0 < length raw.aliases → length ws ≡ counts.alias_params raw (slice_get raw.aliases k.0) → has_params (alias_params raw k) (length ws) ≡ true
-  many_taken k ws within many =
+  -- arguments that are types
+  many_taken : (k : TypeAliasId) (ws : RawArgs) → k.0 < length raw.aliases → is_carried_args ws ≡ true → counts.agrees_with_alias raw (slice_get raw.aliases k.0) ws ≡ true → has_params (alias_params raw k) (length (arg_types ws)) ≡ true
+  many_taken k (args.Later x) within carried agree = absurd (true≢false (sym carried))
+  many_taken k (args.Types ws) within carried agree =
       let a = there raw.aliases k.0 within in
       let t = there raw.traits a.0.trait_.0 (aliases_exist k.0 a.0 a.1).here.trait_ in
       let n = length t.0.params + 1 in
-      let is : counts.alias_params raw (slice_get raw.aliases k.0) ≡ n = ap (counts.alias_params raw) a.1 ∙ ap counts.trait_params t.1 in
+      let is : counts.agrees_with_alias raw (slice_get raw.aliases k.0) (args.Types ws) ≡ (n == length ws) =
+      ap (λ (o : Option RawAlias). counts.agrees_with_alias raw o (args.Types ws)) a.1 ∙ ap (λ (o : Option RawTrait). counts.agrees_with_trait o (args.Types ws)) t.1 in
       let has : alias_params raw k ≡ Some n = ap (alias_params_by raw) a.1 ∙ ap (λ (o : Option RawTrait). option_map (λ (x : RawTrait). length x.params + 1) o) t.1 in
-      ap (λ (o : Option ℕ). has_params o (length ws)) has ∙ same_test (length ws) n (many ∙ is)
+      ap (λ (o : Option ℕ). has_params o (length ws)) has ∙ (sym is ∙ agree)
 
-  goal_right : (n : ℕ) (g : RawGoal) → GoalExists raw g → counts.GoalFits (params_in raw) (wrongs_in raw) raw n g → IsRight raw g
-  goal_right n (goal.Trait r) exist fit = record { counted = goal_counted raw n (goal.Trait r) fit; taken = tt }
-  goal_right n (goal.Projection k ws w) exist fit = record { counted = goal_counted raw n (goal.Projection k ws w) fit; taken = many_taken k (arg_types ws) exist.0 fit.0.many }
+  goal_right : (n : ℕ) (g : RawGoal) → GoalExists raw g → IsTrue (is_carried_goal g) → counts.GoalFits (params_in raw) (wrongs_in raw) raw n g → IsRight raw g
+  goal_right n (goal.Trait r) exist carried fit = record { counted = goal_counted raw n (goal.Trait r) fit; taken = tt }
+  goal_right n (goal.Projection k ws w) exist carried fit = record { counted = goal_counted raw n (goal.Projection k ws w) fit; taken = many_taken k ws exist.0 carried fit.0.agree }
 
   maybe_right : {X : Type 0} (goals : X → List RawGoal) (o : Option X) → ((x : X) → o ≡ Some x → AreRight raw (goals x)) → AreRight raw (preds_or_none (option_map goals o))
   maybe_right goals None each = λ k g at. absurd (cc)
@@ -67,10 +70,10 @@ module _ (raw : RawFacts) (law : IsLawful raw) where
 
   -- the predicates of an adt, and of a function
   adt_right : (a : ℕ) → AreRight raw (preds_or_none (option_map (λ (x : RawAdt). x.preds) (slice_get raw.adts a)))
-  adt_right a = maybe_right (λ (x : RawAdt). x.preds) (slice_get raw.adts a) (λ x here k g at. goal_right (length x.params) g ((adt_ids raw law a x here).preds k g at) ((adts_fit raw law a x here).preds k g at))
+  adt_right a = maybe_right (λ (x : RawAdt). x.preds) (slice_get raw.adts a) (λ x here k g at. goal_right (length x.params) g ((adt_ids raw law a x here).preds k g at) (lawful.adt_goals raw law a x here k g at) ((adts_fit raw law a x here).preds k g at))
 
   fn_right : (f : ℕ) → AreRight raw (preds_or_none (option_map (λ (x : RawFn). x.preds) (slice_get raw.fns f)))
-  fn_right f = maybe_right (λ (x : RawFn). x.preds) (slice_get raw.fns f) (λ x here k g at. goal_right (length x.params) g ((fn_ids raw law f x here).preds k g at) ((fns_fit raw law f x here).preds k g at))
+  fn_right f = maybe_right (λ (x : RawFn). x.preds) (slice_get raw.fns f) (λ x here k g at. goal_right (length x.params) g ((fn_ids raw law f x here).preds k g at) (lawful.fn_goals raw law f x here k g at) ((fns_fit raw law f x here).preds k g at))
 
   variant_right : (o : Option RawVariant) → AreRight raw (variant_preds raw o)
   variant_right None = λ k g at. absurd (cc)
@@ -98,7 +101,7 @@ module _ (raw : RawFacts) (law : IsLawful raw) where
 
     -- the predicates of an impl
     pub impl_goal_fits : (i : ℕ) (p : RawImpl) → slice_get raw.impls i ≡ Some p → (k : ℕ) (g : RawGoal) → slice_get p.preds k ≡ Some g → GoalIsFit raw n (goal_at raw xs g)
-    impl_goal_fits i p here k g at = goal_fits g (goal_right (length p.params) g ((impls_exist raw law i p here).preds k g at) ((impls_fit raw law i p here).preds k g at))
+    impl_goal_fits i p here k g at = goal_fits g (goal_right (length p.params) g ((impls_exist raw law i p here).preds k g at) (lawful.impl_goals raw law i p here k g at) ((impls_fit raw law i p here).preds k g at))
 
     goals_fit : (gs : List RawGoal) → AreRight raw gs → Each (GoalIsFit raw n) (map (goal_at raw xs) gs)
     goals_fit [] right = tt

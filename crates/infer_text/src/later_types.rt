@@ -109,7 +109,11 @@ fn pointer(alloc: Global, value: &Value) -> Result<LaterType, Misread>
 fn safety_by(is_safe: bool) -> Safety
     ensures { result ≡ safety_by is_safe }
 {
-    if is_safe { Safety::Safe } else { Safety::Unsafe }
+    if is_safe {
+        Safety::Safe
+    } else {
+        Safety::Unsafe
+    }
 }
 
 #[tactic(auto, unfolding(crate::specs::LaterTypes::fn_ptr_in))]

@@ -6,8 +6,8 @@ use super::fault::Misread;
 use super::reader::{FromData, misshapen};
 use hir_facts::{
     AdtId, BindingAnnotation, BindingId, BodyId, ConstId, Edition, ExprId, FunctionId, ImplId,
-    IntTy, IntegerTy, LabelId, ModuleId, Mutability, OpaqueId, Other, PatId, RawAdtKind, RawCtor, StaticId,
-    Text, TraitId, TypeAliasId, TypeRefId, UintTy, VariantId,
+    IntTy, IntegerTy, LabelId, ModuleId, Mutability, OpaqueId, Other, PatId, RawAdtKind, RawCtor,
+    StaticId, Text, TraitId, TypeAliasId, TypeRefId, UintTy, VariantId,
 };
 use serde_json::Value;
 use std::alloc::Global;
