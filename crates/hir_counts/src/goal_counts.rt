@@ -37,7 +37,7 @@ fn agrees_after_self(raw: &RawFacts, id: TraitId, args: &RawArgs) -> bool
     ensures { result ≡ agrees_after_self (slice_get raw.now.traits id.0) args.now }
 {
     match args {
-        RawArgs::Types(types) => trait_params(raw, id) == types.len() + 1,
+        RawArgs::Types(types) => trait_params(raw, id) == types.as_slice().len() + 1,
         RawArgs::Later(later) => {
             agree_with_trait(raw, id, later.kinds.as_slice())
                 && are_no_params(later.consts.as_slice())
