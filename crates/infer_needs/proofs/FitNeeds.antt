@@ -8,7 +8,7 @@ use Rattle.hir_types.specs.declared.head.Head.TheVariants as head
 use Rattle.hir_types.specs.Assigned.{type_of}
 use Rattle.infer_needs.specs.Words.hir_raw.declared.raw.RawExpr.TheVariants as expr
 use Rattle.infer_needs.specs.Words.hir_raw.declared.raw.RawArgs.{RawArgs}
-use Rattle.infer_needs.specs.Words.hir_raw.declared.raw.RawArgs.TheVariants as args
+use Rattle.infer_needs.specs.Words.hir_raw.declared.raw.RawArgs.TheVariants as arguments
 use Rattle.infer_needs.specs.Words.hir_raw.declared.raw.RawGoal.TheVariants as goal
 use Rattle.infer_needs.specs.Words.hir_raw.declared.raw.RawPath.TheVariants as path
 use Rattle.infer_needs.specs.Words.hir_raw.declared.raw.RawType.TheVariants as type
@@ -50,13 +50,13 @@ module _ (raw : RawFacts) (law : IsLawful raw) where
 
   -- arguments that are types
   many_taken : (k : TypeAliasId) (ws : RawArgs) → k.0 < length raw.aliases → is_carried_args ws ≡ true → counts.agrees_with_alias raw (slice_get raw.aliases k.0) ws ≡ true → has_params (alias_params raw k) (length (arg_types ws)) ≡ true
-  many_taken k (args.Later x) within carried agree = absurd (true≢false (sym carried))
-  many_taken k (args.Types ws) within carried agree =
+  many_taken k (arguments.Later x) within carried agree = absurd (true≢false (sym carried))
+  many_taken k (arguments.Types ws) within carried agree =
       let a = there raw.aliases k.0 within in
       let t = there raw.traits a.0.trait_.0 (aliases_exist k.0 a.0 a.1).here.trait_ in
       let n = length t.0.params + 1 in
-      let is : counts.agrees_with_alias raw (slice_get raw.aliases k.0) (args.Types ws) ≡ (n == length ws) =
-      ap (λ (o : Option RawAlias). counts.agrees_with_alias raw o (args.Types ws)) a.1 ∙ ap (λ (o : Option RawTrait). counts.agrees_with_trait o (args.Types ws)) t.1 in
+      let is : counts.agrees_with_alias raw (slice_get raw.aliases k.0) (arguments.Types ws) ≡ (n == length ws) =
+      ap (λ (o : Option RawAlias). counts.agrees_with_alias raw o (arguments.Types ws)) a.1 ∙ ap (λ (o : Option RawTrait). counts.agrees_with_trait o (arguments.Types ws)) t.1 in
       let has : alias_params raw k ≡ Some n = ap (alias_params_by raw) a.1 ∙ ap (λ (o : Option RawTrait). option_map (λ (x : RawTrait). length x.params + 1) o) t.1 in
       ap (λ (o : Option ℕ). has_params o (length ws)) has ∙ (sym is ∙ agree)
 
