@@ -1,7 +1,7 @@
 -- Goals, and what they may be answered by.
 use Rattle.std.specs.Prelude.{◌≡◌, ◌⊎◌, ◌==◌, ℕ, Bool, true, false, List, [], ◌∷◌, Option}
 use Rattle.std.specs.List.{list_any}
-use Rattle.goal_answers.specs.Words.{AdtId, TraitId, TypeAliasId, Hole, Term, leaf, pair, apply, occurs}
+use Rattle.goal_answers.specs.Words.{AdtId, TraitId, TypeAliasId, Hole, Term, leaf, pair, apply, occurs, Shape}
 use Rattle.hir_types.specs.declared.head.Head.TheVariants as head
 use Rattle.goal_answers.specs.Reading.{Fill, Aliases, stands}
 
@@ -34,6 +34,8 @@ pub record System : Type 0 where
   pub last_field : AdtId → Option Term
   -- how many types a tail walk looks at
   pub tail : ℕ
+  -- the heads of types that can be written where goals are asked, and over how many parts
+  pub written : Shape
 
 abbrev pub asked_at : Fill → Asked → Asked
 asked_at p g = record { kind = g.kind; parts = apply p g.parts }

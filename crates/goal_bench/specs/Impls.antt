@@ -7,6 +7,7 @@ use Rattle.hir_types.specs.declared.ty.Ty.TheVariants as ty
 use Rattle.hir_types.specs.declared.ty.GenericArg.TheVariants as arg
 use Rattle.hir_types.specs.Terms.{chain, arg_term}
 use Rattle.goal_answers.specs.Goals.{implements, Asked, Rule, System}
+use Rattle.goal_search.specs.Sources.{written_heads}
 
 abbrev pub first_trait : TraitId
 first_trait = record { 0 = 0 }
@@ -59,4 +60,4 @@ endless_impls = impl_of first_trait (wrapped (ty.Var 0)) (implemented first_trai
 
 -- these, and nothing that holds without one
 abbrev pub with_impls : List Rule → System
-with_impls rs = record { clauses = []; rules = rs; sized = []; copied = []; last_field = λ a. None; tail = 0 }
+with_impls rs = record { clauses = []; rules = rs; sized = []; copied = []; last_field = λ a. None; tail = 0; written = written_heads 0 [] }

@@ -101,6 +101,8 @@ fn with_impls(alloc: Global, rules: Vec<Rule>) -> Sources
         copied: Vec::new(alloc),
         last_fields: Vec::new(alloc),
         tail: 0,
+        params: 0,
+        arities: Vec::new(alloc),
     }
 }
 

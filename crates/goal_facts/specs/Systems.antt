@@ -1,7 +1,7 @@
 -- What the goals of an item are answered by.
 use Rattle.std.specs.Prelude.{◌≡◌, ◌++◌, ◌-◌, List, [], ◌∷◌, map, length, slice_get, Option, None, option_map, flat_map}
 use Rattle.std.specs.Option.{option_and_then}
-use Rattle.goal_facts.specs.Words.{AdtId, TraitId, GenericDefId, Term, RawAdt, RawAdtKind, RawLang, RawVariant, RawFacts, Asked, Rule, System}
+use Rattle.goal_facts.specs.Words.{AdtId, TraitId, GenericDefId, Term, RawAdt, RawAdtKind, RawLang, RawVariant, RawFacts, generic_params, Asked, Rule, System, written_heads}
 use Rattle.goal_facts.specs.Words.hir_raw.declared.raw.RawAdtKind.TheVariants as kind
 use Rattle.goal_facts.specs.Words.hir_raw.declared.raw.RawLang.TheVariants as lang
 use Rattle.goal_facts.specs.Arguments.{holes, type_at}
@@ -60,3 +60,4 @@ pub record IsSystemOf (raw : RawFacts) (item : GenericDefId) (f : System) : Type
   pub copied : f.copied ≡ flat_map copied_by raw.lang
   pub last_field : (a : AdtId) → f.last_field a ≡ option_and_then (last_field_of raw) (slice_get raw.adts a.0)
   pub tail : f.tail ≡ raw.limits.tail
+  pub written : f.written ≡ written_heads (generic_params raw item) (map (λ a. length a.params) raw.adts)

@@ -1,12 +1,12 @@
-//! What types read as once associated types are replaced.
-ghost use Rattle.std.specs.Prelude.{IfOk};
-ghost use Rattle.goal_facts.specs.Own.{IsTypeRead, IsSystemOf};
-ghost use Rattle.goal_facts.specs.Words.{system};
+//! What types and goals read as once associated types are replaced.
+ghost use Rattle.std.specs.Prelude.{IfOk, map, option_map};
+ghost use Rattle.goal_facts.specs.Words.{system, chain, arg_term};
+ghost use Rattle.goal_facts.specs.Own.{asked_goal, IsTypeRead, AreArgsReadIf, IsGoalReadIf, IsSystemOf};
 
 use crate::item_sources::ItemSources;
 use goal_search::{Holes, MOST_LEVELS};
-use goal_terms::{term_type, type_term};
-use hir_facts::Ty;
+use goal_terms::{args_term, is_concrete, term_args, term_type, type_term};
+use hir_facts::{GenericArg, Goal, List, TraitRef, Ty};
 use std::alloc::{AllocError, Global};
 
 impl ItemSources<'_> {
@@ -28,5 +28,54 @@ impl ItemSources<'_> {
         let made = term_type(alloc, &read)?;
         let same = type_term(alloc, &made)?.is_same(&read);
         Ok(if same { Some(made) } else { None })
+    }
+
+    /// What the arguments of a trait, whose holes stay, read as at a depth, each associated type in them as what it is: types that can
+    /// be written where goals are asked. Nothing where one is open, where others come of them, and where they are known as they stand.
+    fn read_args(
+        &self,
+        alloc: Global,
+        args: &List<GenericArg>,
+        depth: u32,
+    ) -> Result<Option<List<GenericArg>>, AllocError>
+        ensures { IfOk result (λ found. AreArgsReadIf (system self.now.sources) depth (chain (map arg_term args.now)) found) }
+    {
+        let term = args_term(alloc, args)?;
+        if is_concrete(&term) {
+            return Ok(None);
+        }
+        let read = self
+            .search(alloc)
+            .read(&term, Holes::Stay, depth, MOST_LEVELS)?;
+        let Some(read) = read else {
+            return Ok(None);
+        };
+        if !self.listed().are_written(&read) {
+            return Ok(None);
+        }
+        let made = term_args(alloc, &read)?;
+        let same = args_term(alloc, &made)?.is_same(&read);
+        Ok(if same { Some(made) } else { None })
+    }
+
+    /// What a goal about a trait reads as so, if it reads as another than it is.
+    pub fn read_goal(
+        &self,
+        alloc: Global,
+        goal: &Goal,
+        depth: u32,
+    ) -> Result<Option<Goal>, AllocError>
+        ensures { IfOk result (λ found. IsGoalReadIf (system self.now.sources) depth (asked_goal goal.now) (option_map asked_goal found)) }
+    {
+        let Goal::Trait(trait_ref) = goal else {
+            return Ok(None);
+        };
+        match self.read_args(alloc, &trait_ref.args, depth)? {
+            Some(args) => Ok(Some(Goal::Trait(TraitRef {
+                id: trait_ref.id,
+                args,
+            }))),
+            None => Ok(None),
+        }
     }
 }

@@ -1,5 +1,5 @@
 //! All that the goals of an item are answered by.
-ghost use Rattle.std.specs.Prelude.{◌≡◌, ◌++◌, map, option_map, flat_map, IfOk, IfSome, OnOk};
+ghost use Rattle.std.specs.Prelude.{◌≡◌, ◌++◌, length, map, option_map, flat_map, IfOk, IfSome, OnOk};
 ghost use Rattle.goal_facts.specs.Words.{Each, term_of, HasHeads, asked_list, rules_of, system, RuleHasHeads, SystemHasHeads};
 ghost use Rattle.goal_facts.specs.Own.{AllHaveHeads, IsStated, IsClosure, IsListed, fact, sized_by, copied_by, variant_of, last_field_of, RulesAre, IsSystemOf};
 
@@ -11,6 +11,7 @@ use crate::impls::push_impl_rules;
 use goal_search::{Asked, Rule, Sources};
 use goal_terms::Term;
 use hir_facts::{Facts, GenericDefId, RawAdt, RawAdtKind, RawFacts, RawLang, RawVariant, TraitId};
+use hir_raw::generic_params;
 use std::alloc::{AllocError, Global};
 
 /// What an item states, and what follows from it.
@@ -118,6 +119,17 @@ fn last_fields(
     Ok(made)
 }
 
+/// How many parameters each of these has.
+fn arities(alloc: Global, adts: &[RawAdt]) -> Result<Vec<usize>, AllocError>
+    ensures { IfOk result (λ made. made.items ≡ map (λ a. length a.params) adts.now) }
+{
+    let mut made = Vec::new(alloc);
+    for adt in adts {
+        made.push(adt.params.len())?;
+    }
+    Ok(made)
+}
+
 /// The impls, and what bounds say of associated types.
 fn rules_of(alloc: Global, facts: &Facts) -> Result<Vec<Rule>, AllocError>
     ensures is { IfOk result (λ made. RulesAre facts.now (rules_of made.items)) }
@@ -145,5 +157,7 @@ pub fn sources_of(alloc: Global, facts: &Facts, item: GenericDefId) -> Result<So
         copied: copied_traits(alloc, raw.lang.as_slice())?,
         last_fields: last_fields(alloc, facts, raw.adts.as_slice())?,
         tail: raw.limits.tail,
+        params: generic_params(raw, item),
+        arities: arities(alloc, raw.adts.as_slice())?,
     })
 }

@@ -6,7 +6,7 @@ pub use Rattle.goal_search.specs.Keeping.{AreKept, FoundIs, IsAnswerAt, IsKeptRi
 pub use Rattle.goal_search.specs.Parts.{CopiedAre, CopiesAre, CopiesIf, IsFieldAt, IsLastIf, IsLastPartIf, IsNthIf, IsPartKind, PartsAre, PushesGoals, copied_asked, copied_of, tail_as, with_kind}
 pub use Rattle.goal_search.specs.Searching.{Decides, FillsAreDone, GivenIs, Holds, HoldsNot, IsDone, IsLevelBelow, PredIsDone, RuleHasHeads, StaysFirst, SystemHasHeads, side_part, side_preds}
 pub use Rattle.goal_search.specs.Sized.{IsDenied, IsSaid, IsSizedAt, IsSizedBy, WalkIs}
-pub use Rattle.goal_search.specs.Sources.{asked_list, asked_of, kind_of, rule_of, rules_of, system}
+pub use Rattle.goal_search.specs.Sources.{asked_list, asked_of, kind_of, rule_of, rules_of, system, takes_parts, written_heads}
 pub use Rattle.goal_search.specs.declared.answer.Answer.{Answer}
 pub use Rattle.goal_search.specs.declared.choose.Choice.{Choice}
 pub use Rattle.goal_search.specs.declared.choose.Left.{Left}

@@ -12,6 +12,7 @@ mod rules;
 mod search;
 mod sources;
 mod told;
+mod written;
 
 pub use answer::Answer;
 pub use choose::Choice;

@@ -43,4 +43,8 @@ pub struct Sources {
     pub last_fields: Vec<Option<Term>>,
     /// How many types a walk along last fields looks at.
     pub tail: u32,
+    /// How many parameters are in scope where goals are asked.
+    pub params: usize,
+    /// For each ADT how many parameters it has.
+    pub arities: Vec<usize>,
 }

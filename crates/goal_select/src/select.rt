@@ -18,9 +18,8 @@ pub struct Selected {
     pub preds: Vec<Goal>,
 }
 
-/// Selects a goal, with what is known of its holes, by its only source that isn't refuted, which may be
-/// followed for so many steps: makes it equal to what the source says. `None`, with nothing changed,
-/// where nothing selects it.
+/// Selects a goal, with what is known of its holes, and read where associated types stand in it, by its only source that isn't refuted,
+/// which may be followed for so many steps: makes it equal to what the source says. `None`, with nothing changed, where nothing selects it.
 pub fn select_goal(
     alloc: Global,
     sources: &ItemSources<'_>,
@@ -32,6 +31,26 @@ pub fn select_goal(
     requires depth { depth ≤ sources.now.facts.limits.goal_depth }
     ensures given { IfOk result (λ _. IsSystemOf sources.now.facts sources.now.item (system sources.now.sources)) }
     ensures selected { IfOk result (λ found. IsSelectedIf sources.now.facts (system sources.now.sources) depth table.old table.new goal.now found) }
+{
+    let known = table.resolve(goal)?;
+    match sources.read_goal(alloc, &known, depth)? {
+        Some(read) => select_known(alloc, sources, table, &read, depth),
+        None => select_known(alloc, sources, table, goal, depth),
+    }
+}
+
+/// Selects a goal, with what is known of its holes.
+fn select_known(
+    alloc: Global,
+    sources: &ItemSources<'_>,
+    table: &mut InferenceTable,
+    goal: &Goal,
+    depth: u32,
+) -> Result<Option<Selected>, AllocError>
+    requires holes { GoalIsOf table.old goal.now }
+    requires depth { depth ≤ sources.now.facts.limits.goal_depth }
+    ensures given { IfOk result (λ _. IsSystemOf sources.now.facts sources.now.item (system sources.now.sources)) }
+    ensures selected { IfOk result (λ found. IsKnownSelectedIf sources.now.facts (system sources.now.sources) depth table.old table.new goal.now found) }
 {
     let known = table.resolve(goal)?;
     let Some(choice) = sources.choose(alloc, &known, depth)? else {
