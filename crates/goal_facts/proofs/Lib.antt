@@ -9,4 +9,5 @@ pub mod Systems
 pub mod Typed
 pub mod Written
 pub mod TypesRead
+pub mod ArgsRead
 pub mod Words

@@ -8,6 +8,6 @@ pub use Rattle.goal_facts.specs.ImplGoals.{AreGoalsAt, AreGoalsIf, AreGoalsOf, C
 pub use Rattle.goal_facts.specs.Impls.{assoc_rule, impl_args, impl_holes, impl_rule, impl_rules, rules_for, said_trait, trait_rule}
 pub use Rattle.goal_facts.specs.Levels.{BoundSaysIf, IsLevel, SaysIf, SomeSuper}
 pub use Rattle.goal_facts.specs.Proofs.{AreProofs, AreProofsOf, AreProofsUnder, Holds, IsBuiltIn, IsClause, IsImplAt, IsListedBound, IsProofOf, IsSame, IsSource, IsUnshadowed, MayHaveSource, SaysItself, arg_at, args_fill, filled_goal}
-pub use Rattle.goal_facts.specs.Reading.{AreArgsRead, AreArgsReadIf, IsGoalRead, IsGoalReadIf, IsReadOrItself, IsTakenAs, IsTypeRead, SelectsTaken, TypeReads}
+pub use Rattle.goal_facts.specs.Reading.{AreArgsRead, AreArgsReadIf, AreWrittenArgs, IsGoalRead, IsGoalReadIf, IsReadOrItself, IsTakenAs, IsTypeRead, SelectsTaken, TypeReads}
 pub use Rattle.goal_facts.specs.Systems.{ClausesAre, IsSystemOf, RulesAre, copied_by, fact, last_field_of, last_of, sized_by, variant_of}
 pub use Rattle.goal_facts.specs.declared.impl_goals.RuleGoals.{RuleGoals}

@@ -17,11 +17,19 @@ IsReadOrItself f n t u = TypeReads f n t u ⊎ (IsTypeRead f n t None × (u ≡ 
 
 -- ---- goals about traits
 
+abbrev pub AreArgsOf : List GenericArg → Term → Type 0
+AreArgsOf xs t = chain (map arg_term xs) ≡ t
+
+-- the term is of these arguments, which are types that can be written where goals are asked, over holes; or it is of none such
+abbrev pub AreWrittenArgs : System → Term → Option (List GenericArg) → Type 0
+AreWrittenArgs f t (Some xs) = AreArgsOf xs t × IsMadeOf f.written rest t
+AreWrittenArgs f t None = (xs : List GenericArg) → AreArgsOf xs t → IsMadeOf f.written rest t → ⊥
+
 -- the arguments of a trait read as these at the depth, which are types that can be written where goals are asked, over holes
 pub record AreArgsRead (f : System) (n : ℕ) (t u : Term) : Type 0 where
   pub reads : ReadsAs (answers f n).Alias t u
   pub written : IsMadeOf f.written rest u
-  pub args : (xs : List GenericArg) × (chain (map arg_term xs) ≡ u)
+  pub args : (xs : List GenericArg) × AreArgsOf xs u
 
 -- so do those of a goal about a trait: it reads as this one
 pub record IsGoalRead (f : System) (n : ℕ) (g h : Asked) : Type 0 where

@@ -1,11 +1,11 @@
 //! What types and goals read as once associated types are replaced.
 ghost use Rattle.std.specs.Prelude.{IfOk, map, option_map};
-ghost use Rattle.goal_facts.specs.Words.{system, chain, arg_term};
-ghost use Rattle.goal_facts.specs.Own.{asked_goal, IsTypeRead, AreArgsReadIf, IsGoalReadIf, IsSystemOf};
+ghost use Rattle.goal_facts.specs.Words.{system, chain, arg_term, term_of};
+ghost use Rattle.goal_facts.specs.Own.{asked_goal, IsTypeRead, AreWrittenArgs, AreArgsReadIf, IsGoalReadIf, IsSystemOf};
 
 use crate::item_sources::ItemSources;
 use goal_search::{Holes, MOST_LEVELS};
-use goal_terms::{args_term, is_concrete, term_args, term_type, type_term};
+use goal_terms::{Term, args_term, is_concrete, term_args, term_type, type_term};
 use hir_facts::{GenericArg, Goal, List, TraitRef, Ty};
 use std::alloc::{AllocError, Global};
 
@@ -30,8 +30,27 @@ impl ItemSources<'_> {
         Ok(if same { Some(made) } else { None })
     }
 
-    /// What the arguments of a trait, whose holes stay, read as at a depth, each associated type in them as what it is: types that can
-    /// be written where goals are asked. Nothing where one is open, where others come of them, and where they are known as they stand.
+    /// The arguments that a term is of, if these are types that can be written where goals are asked.
+    fn written_args(
+        &self,
+        alloc: Global,
+        term: &Term,
+    ) -> Result<Option<List<GenericArg>>, AllocError>
+        ensures { IfOk result (λ found. AreWrittenArgs (system self.now.sources) (term_of term.now) found) }
+    {
+        if !self.listed().are_written(term) {
+            return Ok(None);
+        }
+        let made = term_args(alloc, term)?;
+        let back = args_term(alloc, &made)?;
+        if !back.is_same(term) {
+            return Ok(None);
+        }
+        Ok(Some(made))
+    }
+
+    /// What arguments of a trait, whose holes stay, read as at a depth, each associated type in them as what it is: types that can be
+    /// written where goals are asked. Nothing where one is open, where others come of them, and where none has to be read.
     fn read_args(
         &self,
         alloc: Global,
@@ -47,15 +66,10 @@ impl ItemSources<'_> {
         let read = self
             .search(alloc)
             .read(&term, Holes::Stay, depth, MOST_LEVELS)?;
-        let Some(read) = read else {
-            return Ok(None);
-        };
-        if !self.listed().are_written(&read) {
-            return Ok(None);
+        match read {
+            Some(read) => self.written_args(alloc, &read),
+            None => Ok(None),
         }
-        let made = term_args(alloc, &read)?;
-        let same = args_term(alloc, &made)?.is_same(&read);
-        Ok(if same { Some(made) } else { None })
     }
 
     /// What a goal about a trait reads as so, if it reads as another than it is.

@@ -5,7 +5,7 @@ use Rattle.goal_select.specs.Words.{GenericDefId, Goal, TraitRef, Term, hole, ap
 use Rattle.hir_types.specs.declared.goal.Goal.TheVariants as goal
 use Rattle.goal_select.proofs.Words.{apply_hole, hole_filling, read_reads, reads_filled, reads_within, reads_agree, reads_may, may_here, answers_stay, entry_at}
 use Rattle.goal_facts.specs.declared.proof.ProofSource.TheVariants as source
-use Rattle.goal_select.specs.Own.{Selected, known_goal, goal_type, GoalIsOf, HasHeadsOf, HasHeadsIfConcrete, IsSelected}
+use Rattle.goal_select.specs.Own.{Selected, known_goal, goal_type, GoalIsOf, HasHeadsOf, HasHeadsIfConcrete, IsSelectedKnown}
 use Rattle.goal_select.proofs.Known.{log, known_stays}
 use Rattle.goal_select.proofs.Uniting.{united}
 use Rattle.goal_select.proofs.Heads.{known_heads, heads_united}
@@ -105,7 +105,7 @@ module _ (raw : RawFacts) (item : GenericDefId) (f : System) (are : ClausesAre r
               ∙ no_holes_apply t (trait_goal h).parts head_none ∙ ap (λ (y : Asked). y.parts) is in
               subst (ReadsAs P x) (sym same) (read_reads P x (concrete_read x p.0))
 
-      pub clause_selected : (made : Selected) → made.source ≡ source.Clause (goal.Trait h) → made.preds.items ≡ [] → IsSelected raw f n before after g made
+      pub clause_selected : (made : Selected) → made.source ≡ source.Clause (goal.Trait h) → made.preds.items ≡ [] → IsSelectedKnown raw f n before after g made
       clause_selected made by none = record {
         by = by_clause i;
         chosen = subst (λ y. Selects f n y (by_clause i)) (ap asked_goal (sym known)) selects;

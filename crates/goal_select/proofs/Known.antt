@@ -48,7 +48,7 @@ resolution_applied bs t = apply_agree (terms_of (resolution bs)) (solution (log_
 abbrev pub log : State → Log
 log s = log_of (bindings s)
 
-known_asks : (s : State) (g : Goal) → asked_goal (known_goal s g) ≡ record { kind = (asked_goal g).kind; parts = resolved (log s) (asked_goal g).parts }
+pub known_asks : (s : State) (g : Goal) → asked_goal (known_goal s g) ≡ record { kind = (asked_goal g).kind; parts = resolved (log s) (asked_goal g).parts }
 known_asks s g =
     goal_folded (resolution (bindings s)) g
     ∙ (λ i. record { kind = (asked_goal g).kind; parts = resolution_applied (bindings s) (asked_goal g).parts i })

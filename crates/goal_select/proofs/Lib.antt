@@ -11,6 +11,8 @@ pub mod SourceHeads
 pub mod PartChoices
 pub mod TypeHeads
 pub mod ReadFills
+pub mod ReadHoles
+pub mod TakenGoals
 pub mod Params
 pub mod RuleSteps
 pub mod RuleChoices

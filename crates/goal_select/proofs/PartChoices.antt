@@ -4,7 +4,7 @@ use Rattle.goal_select.specs.Words.{Goal, TraitRef, Term, apply, RawFacts, AllOf
 use Rattle.hir_types.specs.declared.goal.Goal.TheVariants as goal
 use Rattle.goal_select.proofs.Words.{grew_itself, CopyYesBy, selected_is_the_source}
 use Rattle.goal_facts.specs.declared.proof.ProofSource.TheVariants as source
-use Rattle.goal_select.specs.Own.{Selected, known_goal, GoalIsOf, self_part_goals, HasHeadsIfConcrete, LosesNothing, IsSelected}
+use Rattle.goal_select.specs.Own.{Selected, known_goal, GoalIsOf, self_part_goals, HasHeadsIfConcrete, LosesNothing, IsSelectedKnown}
 use Rattle.goal_select.proofs.Known.{known_of, known_filled}
 use Rattle.goal_select.proofs.Heads.{known_heads}
 use Rattle.goal_select.proofs.SourceHeads.{part_heads}
@@ -69,7 +69,7 @@ module _ (raw : RawFacts) (f : System) (n : ℕ) (below : n ≤ raw.limits.goal_
         let each = each_mapped Proved (λ u. record { kind = (trait_goal k).kind; parts = only u }) (types_at s k) (parts_proved f Proved (trait_goal k).kind (apply s (trait_goal k).parts) (types_at s k) (copies s) through) in
         (s, filling, λ j less. refl, meets, each_from_map Proved (filled_goal s) made.preds.items (subst (Each Proved) (sym (asks s)) each))
 
-    pub parts_selected : IsSelected raw f n before before g made
+    pub parts_selected : IsSelectedKnown raw f n before before g made
     parts_selected = record {
       by = by_parts;
       chosen = chosen by_parts selects;
@@ -87,7 +87,7 @@ module _ (raw : RawFacts) (f : System) (n : ℕ) (below : n ≤ raw.limits.goal_
       depth = inl (chosen_deep f n (trait_goal k) by_parts selects (λ sized. sized));
     }
 
-  pub size_selected : Selects f n (trait_goal k) by_size → made.preds.items ≡ [] → IsSelected raw f n before before g made
+  pub size_selected : Selects f n (trait_goal k) by_size → made.preds.items ≡ [] → IsSelectedKnown raw f n before before g made
   size_selected selects none =
       let only_size = size_only f n (trait_goal k) selects in
       record {

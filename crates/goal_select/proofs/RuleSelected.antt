@@ -5,7 +5,7 @@ use Rattle.hir_types.specs.declared.goal.Goal.TheVariants as goal
 use Rattle.goal_select.proofs.Words.{grew_twice, each_map}
 use Rattle.goal_facts.specs.declared.proof.ProofSource.TheVariants as source
 use Rattle.goal_facts.specs.ImplGoals.{AreGoalsOf}
-use Rattle.goal_select.specs.Own.{Selected, known_goal, goal_type, GoalIsOf, with_type_holes, HasHeadsOf, HasHeadsIfConcrete, BringsNoHead, LosesNothing, IsSelected}
+use Rattle.goal_select.specs.Own.{Selected, known_goal, goal_type, GoalIsOf, with_type_holes, HasHeadsOf, HasHeadsIfConcrete, BringsNoHead, LosesNothing, IsSelectedKnown}
 use Rattle.goal_select.proofs.Known.{log, known_of, known_stays}
 use Rattle.goal_select.proofs.Heads.{known_heads, heads_united}
 use Rattle.goal_select.proofs.SourceHeads.{fresh_heads, fresh_if_concrete}
@@ -67,7 +67,7 @@ module _ (raw : RawFacts) (f : System) (n : ℕ) (k : TraitRef) (i : ℕ) (selec
           each_from_map (HasHeadsIfConcrete Q) asked_goal goals.preds.items (subst (Each (HasHeadsIfConcrete Q)) (sym are.preds) preds),
         )
 
-    pub rule_selected : (made : Selected) → made.source ≡ source.Impl goals.source goals.args → made.preds.items ≡ goals.preds.items → LosesNothing f n before after g goals.preds.items → IsSelected raw f n before after g made
+    pub rule_selected : (made : Selected) → made.source ≡ source.Impl goals.source goals.args → made.preds.items ≡ goals.preds.items → LosesNothing f n before after g goals.preds.items → IsSelectedKnown raw f n before after g made
     rule_selected made by preds loses =
         let grew = grew_twice before mid after (type_holes_grew before (params raw before r goals are)) met.grown in
         record {

@@ -1,7 +1,7 @@
 -- One step of selection: what a goal is made equal to, and what its source asks for.
 use Rattle.std.specs.Prelude.{◌≡◌, ◌<◌, ◌≤◌, ◌++◌, ℕ, suc, List, [], ◌∷◌, map, slice_get, Option, Some, None, IsTrue, ◌⊎◌}
 use Rattle.std.specs.List.{range_with_len}
-use Rattle.goal_select.specs.Words.{TraitId, TypeAliasId, Goal, Head, Hole, AliasBound, GenericArg, TraitRef, out-TraitRef, Ty, Ty-F, out-Ty, goal_replaced, with_holes, Term, hole_number, RawFacts, Shape, rest, IsMadeOf, BindsOnly, NoAlias, resolution, AreOf, State, bindings, hole_count, Meets, Grew, Fill, IsRead, IsFilling, ReadsAs, Asked, Rule, System, Each, key, answers, Says, HasProof, Choice, by_clause, by_rule, by_parts, by_size, IsConcrete, IsTraitKind, IsDeep, Selects, ProofSource, trait_goal, asked_goal, filled_goal, IsSource, MayHaveSource}
+use Rattle.goal_select.specs.Words.{TraitId, TypeAliasId, Goal, Head, Hole, AliasBound, GenericArg, TraitRef, out-TraitRef, Ty, Ty-F, out-Ty, goal_replaced, with_holes, Term, hole_number, RawFacts, Shape, rest, IsMadeOf, BindsOnly, NoAlias, resolution, AreOf, State, bindings, hole_count, Meets, Grew, Fill, IsRead, IsFilling, ReadsAs, Asked, Rule, System, Each, key, answers, Says, HasProof, Choice, by_clause, by_rule, by_parts, by_size, IsConcrete, IsTraitKind, IsDeep, Selects, ProofSource, trait_goal, asked_goal, filled_goal, IsTakenAs, SelectsTaken, IsSource, MayHaveSource}
 use Rattle.hir_types.specs.declared.goal.Goal.TheVariants as goal
 use Rattle.hir_types.specs.declared.head.HoleKind.TheVariants as kind
 use Rattle.hir_types.specs.declared.ty.GenericArg.TheVariants as arg
@@ -67,12 +67,13 @@ HasHeadsIfConcrete P g = IsTraitKind g.kind → IsConcrete g.parts → HasHeadsO
 abbrev pub RuleHasHeadsOf : Shape → Rule → Type 0
 RuleHasHeadsOf P r = IsTraitKind r.head.kind → IsConcrete r.head.parts → HasHeadsOf P r.head × Each (HasHeadsIfConcrete P) r.preds
 
--- each source has
+-- each source has, and so have types that can be written
 pub record SystemHasHeadsOf (P : Shape) (f : System) : Type 0 where
   pub clauses : (i : ℕ) (r : Rule) → slice_get f.clauses i ≡ Some r → RuleHasHeadsOf P r
   pub rules : (i : ℕ) (r : Rule) → slice_get f.rules i ≡ Some r → RuleHasHeadsOf P r
+  pub written : (h : Head) (n : ℕ) → IsTrue (f.written h n) → IsTrue (P h n)
 
--- no head comes into the table, nor into what is asked for, but those of the table, the goal and the sources
+-- no head comes into the table, nor into what is asked for, but those of the table, the goal, the sources, and types that can be written
 abbrev pub BringsNoHead : System → State → State → Goal → List Goal → Type 0
 BringsNoHead f before after g qs =
     (P : Shape) → NoAlias P → (h : Head) → IsTrue (P h 0) → SystemHasHeadsOf P f → BindsOnly P (log_of (bindings before))
@@ -112,9 +113,10 @@ LosesNothing f n before after g qs =
     (t : Fill) × IsFilling t × SameBelow (hole_count before) s t × Meets t after
     × Each (λ q. HasProof f (Says table) height (filled_goal t q)) qs
 
-pub record IsSelected (raw : RawFacts) (f : System) (n : ℕ) (before after : State) (g : Goal) (made : Selected) : Type 0 where
+-- the goal was selected, as which this is chosen for
+pub record IsSelected (raw : RawFacts) (f : System) (n : ℕ) (before after : State) (g : Goal) (k : Asked) (made : Selected) : Type 0 where
   pub by : Choice
-  pub chosen : Selects f n (asked_goal (known_goal before g)) by
+  pub chosen : Selects f n k by
   pub grew : Grew before after
   pub pairs : after.pairs ≡ before.pairs
   pub diverging : after.diverging ≡ before.diverging
@@ -124,10 +126,21 @@ pub record IsSelected (raw : RawFacts) (f : System) (n : ℕ) (before after : St
   pub heads : BringsNoHead f before after g made.preds.items
   pub depth : IsDeep n ⊎ (made.preds.items ≡ [])
 
--- it was, or nothing selects it
+-- with what is known of its holes
+abbrev pub IsSelectedKnown : RawFacts → System → ℕ → State → State → Goal → Selected → Type 0
+IsSelectedKnown raw f n before after g made = IsSelected raw f n before after g (asked_goal (known_goal before g)) made
+
+-- it was so, or nothing selects it so
+abbrev pub IsKnownSelectedIf : RawFacts → System → ℕ → State → State → Goal → Option Selected → Type 0
+IsKnownSelectedIf raw f n before after g (Some made) = IsSelectedKnown raw f n before after g made
+IsKnownSelectedIf raw f n before after g None = (after ≡ before) × ((by : Choice) → Selects f n (asked_goal (known_goal before g)) by → ⊥)
+
+-- it was as what it is taken as, or nothing selects that
 abbrev pub IsSelectedIf : RawFacts → System → ℕ → State → State → Goal → Option Selected → Type 0
-IsSelectedIf raw f n before after g (Some made) = IsSelected raw f n before after g made
-IsSelectedIf raw f n before after g None = (after ≡ before) × ((by : Choice) → Selects f n (asked_goal (known_goal before g)) by → ⊥)
+IsSelectedIf raw f n before after g (Some made) =
+    (k : Asked) × IsTakenAs f n (asked_goal (known_goal before g)) k × IsSelected raw f n before after g k made
+IsSelectedIf raw f n before after g None =
+    (after ≡ before) × ((by : Choice) → SelectsTaken f n (asked_goal (known_goal before g)) by → ⊥)
 
 -- ---- what a source makes of a goal
 
@@ -144,7 +157,7 @@ abbrev pub SelectsKnown : RawFacts → System → State → State → TraitRef �
 SelectsKnown raw f before after k by made =
     (n : ℕ) → n ≤ raw.limits.goal_depth → Selects f n (trait_goal k) by → (g : Goal) → GoalIsOf before g
     → known_goal before g ≡ goal.Trait k →
-    IsSelected raw f n before after g made
+    IsSelectedKnown raw f n before after g made
 
 -- it is built in, and asks for these
 abbrev pub IsBuiltInBy : Selected → List Goal → Type 0

@@ -28,7 +28,7 @@ pub use Rattle.goal_facts.specs.Words.{AllOf, Substitution, bound_hole, completi
 pub use Rattle.goal_facts.specs.Words.{Gives, GivesNone, HasNoSource, HasSource, IsApart, IsItself, IsNeverItself, IsRefuted, Proves, RuleIsRefuted, Shadows, ShadowsNot, YesAt, alias_first, alias_next, answers, nothing, Asked, Each, IsKnown, IsKnownPart, IsToldBy, Kind, OneIf, OneOf, Rule, SomeOf, System, Verdicts, args_of, asked_at, implements, is_among, is_trait, key, only, projects, self_type, type_of, HasProof, IsOne, Says, Aliases, Fill, IsFilling, IsRead, IsReadLeaf, MayRead, Reads, ReadsAs, alias, alias_at, plain, role, stands, staying, AreArgs, Copied, CopyYes, EachType, IsLast, IsNth, SizedYes, by_impls, copied, copied_head, field_tail, types_of, unclear, with_part, with_parts, Choice, CopiesParts, IsConcrete, IsDeep, IsOnlySource, IsTraitKind, Selects, SizeIsBy, by_clause, by_parts, by_rule, by_size, HoldsAt, HoldsIf, ReadingIs, known_below}
 pub use Rattle.goal_facts.specs.Words.{fill_of, log_of, HasHeads, IsHead, role_of, term_is, term_of, concrete_plain, concrete_read, concrete_reads, may_concrete}
 pub use Rattle.goal_facts.specs.Words.{choice_of, holes_fill, Decides, IsDone, IsLevelBelow, PredIsDone, RuleHasHeads, SystemHasHeads, IsSizedAt, asked_list, asked_of, kind_of, rule_of, rules_of, system, Answer, Sources}
-pub use Rattle.goal_facts.specs.Own.{AreDistinct, Has, args_at, goal_at, goal_types, holes, instance, instances, own_params, type_at, BoundSays, IsListed, IsClosure, IsStated, IsSuper, env_preds, env_trait, own_clause, preds_of_trait, preds_or_none, trait_holes, trait_preds, IsAnswer, ItemSources, asked_goal, trait_goal, ComesFrom, HasHolesBelow, ImplHasRule, fresh, holes_from, assoc_rule, impl_args, impl_holes, impl_rules, rules_for, said_trait, trait_rule, AreProofs, AreProofsOf, AreProofsUnder, Holds, IsBuiltIn, IsClause, IsImplAt, IsListedBound, IsProofOf, IsSame, IsSource, IsUnshadowed, MayHaveSource, SaysItself, arg_at, args_fill, filled_goal, IsReadOrItself, IsTypeRead, TypeReads, ClausesAre, IsSystemOf, fact, last_field_of, last_of, sized_by, variant_of}
+pub use Rattle.goal_facts.specs.Own.{AreDistinct, Has, args_at, goal_at, goal_types, holes, instance, instances, own_params, type_at, BoundSays, IsListed, IsClosure, IsStated, IsSuper, env_preds, env_trait, own_clause, preds_of_trait, preds_or_none, trait_holes, trait_preds, IsAnswer, ItemSources, asked_goal, trait_goal, ComesFrom, HasHolesBelow, ImplHasRule, fresh, holes_from, assoc_rule, impl_args, impl_holes, impl_rules, rules_for, said_trait, trait_rule, AreProofs, AreProofsOf, AreProofsUnder, Holds, IsBuiltIn, IsClause, IsImplAt, IsListedBound, IsProofOf, IsSame, IsSource, IsUnshadowed, MayHaveSource, SaysItself, arg_at, args_fill, filled_goal, AreArgsRead, IsGoalRead, IsGoalReadIf, IsReadOrItself, IsTakenAs, IsTypeRead, SelectsTaken, TypeReads, ClausesAre, IsSystemOf, fact, last_field_of, last_of, sized_by, variant_of}
 pub use Rattle.goal_facts.specs.declared.impl_goals.RuleGoals.{RuleGoals}
 pub use Rattle.goal_facts.specs.declared.proof.Proof.{Proof}
 pub use Rattle.goal_facts.specs.declared.proof.ProofSource.{ProofSource}

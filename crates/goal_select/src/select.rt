@@ -2,7 +2,7 @@
 //! a candidate.
 ghost use Rattle.std.specs.Prelude.{◌≡◌, ◌≤◌, [], IfOk, OnOk};
 ghost use Rattle.goal_select.specs.Words.{system, by_clause, by_rule, choice_of, IsSystemOf};
-ghost use Rattle.goal_select.specs.Own.{GoalIsOf, with_type_holes, IsKnownIn, IsChosen, SelectsKnown, self_part_goals, IsBuiltInBy, IsSelectedIf};
+ghost use Rattle.goal_select.specs.Own.{GoalIsOf, with_type_holes, IsKnownIn, IsChosen, SelectsKnown, self_part_goals, IsBuiltInBy, IsKnownSelectedIf, IsSelectedIf};
 
 use crate::meeting::meet;
 use crate::parts::part_goals;

@@ -1,6 +1,6 @@
-use Rattle.std.proofs.Common.{◌++◌, ◌∙◌, ap, map}
+use Rattle.std.proofs.Common.{◌++◌, ◌∙◌, ap, length, map}
 use Rattle.std.specs.Prelude.{flat_map}
-use Rattle.goal_facts.specs.Words.{term_of, asked_list, rules_of}
+use Rattle.goal_facts.specs.Words.{generic_params, term_of, asked_list, rules_of, written_heads}
 use Rattle.goal_facts.specs.Own.{fact, sized_by, copied_by, last_field_of}
 use Rattle.goal_facts.proofs.Systems.{entries_agree, field_heads}
 use Rattle.goal_facts.proofs.sources.sources_of.Goals as goal
@@ -19,6 +19,9 @@ returns-clause-is c =
       copied = c.in_ok-copied_traits.ensures ∙ ap (flat_map copied_by) (c.as_slice-2.ensures ∙ ap (λ r. r.lang) raw);
       last_field = λ a. entries_agree term_of (last_field_of c.args.facts.now) c.in_ok-last_fields.field-0.items c.args.facts.now.adts (c.in_ok-last_fields.ensures.is ∙ ap (map (last_field_of c.args.facts.now)) (c.as_slice-3.ensures ∙ ap (λ r. r.adts) raw)) a.0;
       tail = ap (λ r. r.limits.tail) raw;
+      written =
+          ap (λ n. written_heads n c.in_ok-arities.field-0.items) (c.generic_params.ensures ∙ ap (λ r. generic_params r c.args.item) raw)
+          ∙ ap (written_heads (generic_params c.args.facts.now c.args.item)) (c.in_ok-arities.ensures ∙ ap (map (λ a. length a.params)) (c.as_slice-4.ensures ∙ ap (λ r. r.adts) raw));
     }
 
 pub returns-clause-heads : goal.returns-clause-heads
