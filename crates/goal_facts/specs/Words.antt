@@ -27,6 +27,6 @@ pub use Rattle.hir_facts.specs.declared.laws.Law.{Law}
 pub use Rattle.goal_search.specs.Words.{AllOf, Substitution, bound_hole, completion, FellBack, IsLawfulState, BindsOf, are_of_hole, are_of_leaf, are_of_more, are_of_pair, are_of_parts, binds_found, binds_of_found, found_place, resolved_append, resolved_apply, resolved_fixed, resolved_leaf, resolved_pair, resolved_twice, solution, solution_apply, solution_respects, solution_solves, solves_after, solves_left, triangular_left, HasMadeIf, IsPlain, IsReadAs, Place, place, unknown_const, unknown_type, below_of, log_below_of, Reads_at, opened_plain, reads_apply, solves_same, AreMadeOf, BindsOnly, IsEnd, IsMadeOf, IsTypeMark, NoAlias, NoMark, Shape, TermRole, apply_resolved_term, binds_only_unified, made_of_apply, made_of_resolved, made_of_resolved_term, made_of_within, meets_before, part, plain_of, refused_apart, rest, unified_makes_same, whole, width, width_apply, IsOpenOrKnown, open_int_var, open_var, resolution, resolution_term, resolution_terms, AreOf, Free, Log, NoneUnifies, Respects, Solves, Triangular, Unified, UnifiedIf, binds, entry, found, hole_kind, resolved, sub, AllUnknown, AreRefused, AreUnified, AreUnifiedIf, CanBeEqual, Grew, GrewFrom, HolesAreOf, IsBack, IsFront, IsMostGeneral, IsTakenIn, IsUnknownPair, Meets, State, TakesFirstKnown, TakesKnown, Undoes, bindings, hole_count, is_type_hole, new_state, resolved_term, resolved_type, with_new_hole, with_waiting, apply_agree, apply_apply, hole_eq_same, hole_eq_true, is_int_apply, pair_left, pair_right, GoesBack, IsResolvedOr, Waiting, is_taken, waiting, with_pair, Binding, Snapshot, NoUnifier, WaitingPair}
 pub use Rattle.goal_search.specs.Words.{CannotGive, Gives, GivesNone, HasNoSource, HasSource, IsApart, IsItself, IsNeverItself, IsRefuted, NoAt, Proves, RuleIsRefuted, Shadows, ShadowsNot, YesAt, alias_first, alias_next, answers, first, next, nothing, Asked, Each, IsKnown, IsKnownPart, IsToldBy, Kind, OneIf, OneOf, Rule, SomeOf, System, Verdicts, args_of, asked_at, implements, is_among, is_trait, key, only, projects, self_type, type_of, HasProof, IsOne, Says, Aliases, Fill, IsFilling, IsRead, IsReadLeaf, MayRead, Reads, ReadsAs, alias, alias_at, plain, role, stands, staying, AreArgs, Copied, CopyYes, EachType, IsLast, IsNth, SizedNo, SizedYes, Tail, asked, by_impls, copied, copied_head, field, field_tail, has_none, has_size, last, tail_of, types_of, unclear, unclear_tail, with_part, with_parts, Choice, CopiesParts, IsChoice, IsConcrete, IsDeep, IsOnlySource, IsTraitKind, Selects, SizeIsBy, by_clause, by_parts, by_rule, by_size, HoldsAt, HoldsIf, ReadingIs, known_below}
 pub use Rattle.goal_search.specs.Words.{fill_of, log_of, HasHeads, IsHead, role_of, term_is, term_of, term_of_hole, term_of_leaf, concrete_plain, concrete_read, concrete_reads, may_concrete, HaveHeads, IsLog}
-pub use Rattle.goal_search.specs.Own.{choice_of, holes_fill, IsFieldAt, Decides, IsDone, IsLevelBelow, PredIsDone, RuleHasHeads, SystemHasHeads, IsSizedAt, asked_list, asked_of, kind_of, rule_of, rules_of, system, written_heads}
+pub use Rattle.goal_search.specs.Own.{choice_of, holes_fill, IsFieldAt, Decides, IsDone, IsLevelBelow, PredIsDone, RuleHasHeads, SystemHasHeads, IsSizedAt, asked_list, asked_of, kind_of, rule_of, rules_of, system, takes_parts, written_heads}
 pub use Rattle.goal_search.specs.declared.answer.Answer.{Answer}
 pub use Rattle.goal_search.specs.declared.sources.Sources.{Sources}

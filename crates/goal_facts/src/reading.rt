@@ -84,7 +84,8 @@ impl ItemSources<'_> {
         let Goal::Trait(trait_ref) = goal else {
             return Ok(None);
         };
-        match self.read_args(alloc, &trait_ref.args, depth)? {
+        let found = self.read_args(alloc, &trait_ref.args, depth)?;
+        match found {
             Some(args) => Ok(Some(Goal::Trait(TraitRef {
                 id: trait_ref.id,
                 args,

@@ -28,7 +28,7 @@ rules_of = map rule_of
 -- ---- types that can be written
 
 abbrev pub takes_parts : Option ℕ → ℕ → Bool
-takes_parts (Some m) n = n == m
+takes_parts (Some m) n = m == n
 takes_parts None n = false
 
 -- the heads of types that can be written where so many parameters are in scope, and ADTs have so many, and over how many parts

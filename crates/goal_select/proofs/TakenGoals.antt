@@ -1,11 +1,12 @@
 -- A goal that is selected as what it reads as.
-use Rattle.std.proofs.Common.{◌≡◌, ◌≤◌, inl, inr, ℕ, zero, suc, Bool, true, false, map, refl, sym, ap, ◌∙◌, subst, true≢false, List, Option, Some, None, IsTrue}
+use Rattle.std.proofs.Common.{◌≡◌, ◌≤◌, inl, inr, ℕ, zero, suc, Bool, true, false, map, refl, sym, ap, ◌∙◌, subst, true≢false, List, IsTrue}
+use Rattle.std.specs.Prelude.{Option, Some, None, option_map}
 use Rattle.std.proofs.lemmas.Bool.{false_from_ne_true}
-use Rattle.goal_select.specs.Words.{Goal, Head, Hole, HoleKind, Term, hole, leaf, pair, apply, occurs, resolved, resolved_fixed, resolved_free, resolved_apply, Triangular, AreOf, AllOf, Shape, TermRole, whole, part, rest, width, IsMadeOf, RawFacts, State, bindings, Meets, Grew, Fill, IsRead, IsFilling, Aliases, Reads, ReadsAs, Kind, Asked, System, asked_at, key, OneIf, Each, IsOne, HasProof, Says, answers, IsTraitKind, IsConcrete, ProofSource, asked_goal, filled_goal, IsGoalRead, IsTakenAs, SelectsTaken, Selects, Choice, IsSame, IsClause, IsImplAt, IsListedBound, IsBuiltIn, IsUnshadowed, SaysItself, IsSource, MayHaveSource}
+use Rattle.goal_select.specs.Words.{TypeAliasId, Goal, Head, Hole, HoleKind, Term, hole, leaf, pair, apply, occurs, resolved, resolved_fixed, resolved_free, resolved_apply, Triangular, AreOf, AllOf, Shape, TermRole, whole, part, rest, width, IsMadeOf, RawFacts, State, bindings, Meets, Grew, Fill, IsRead, IsFilling, Aliases, Reads, ReadsAs, Kind, implements, projects, Asked, System, asked_at, key, OneIf, Each, IsOne, HasProof, Says, answers, IsTraitKind, IsConcrete, ProofSource, asked_goal, args_fill, filled_goal, IsGoalRead, IsGoalReadIf, IsTakenAs, SelectsTaken, Selects, Choice, IsSame, IsClause, IsImplAt, IsListedBound, IsBuiltIn, IsUnshadowed, SaysItself, IsSource, MayHaveSource}
 use Rattle.goal_facts.specs.declared.proof.ProofSource.TheVariants as source
 use Rattle.goal_select.specs.Words.infer_table.Preserved.{IsHead as IsHeadOf}
 use Rattle.goal_select.proofs.Words.{AliasWithin, answers_stay, answers_are_one, answers_read, reads_read, reads_within, reads_as_filled, reads_one, read_reads, read_filled, resolved_made}
-use Rattle.goal_select.specs.Own.{Selected, known_goal, GoalIsOf, HasHeadsOf, HasHeadsIfConcrete, SystemHasHeadsOf, BringsNoHead, IsRightSource, LosesNothing, IsTableOf, IsSole, IsSelected, IsSelectedKnown}
+use Rattle.goal_select.specs.Own.{Selected, known_goal, GoalIsOf, HasHeadsOf, HasHeadsIfConcrete, SystemHasHeadsOf, BringsNoHead, IsRightSource, LosesNothing, IsSelected, IsSelectedIf, IsSelectedKnown, IsKnownSelectedIf}
 use Rattle.goal_select.proofs.Known.{log, known_asks}
 use Rattle.goal_select.proofs.Choices.{within, meets_before}
 use Rattle.goal_select.proofs.ReadHoles.{read_holes}
@@ -68,7 +69,7 @@ module _ (P : Aliases) (c : Kind) (x y : Term) (as_read : (w : Term) → ReadsAs
       at = h.1.at;
       rule = h.1.rule;
       of = h.1.of;
-      same = same_read _ h.1.same;
+      same = same_read (asked_at (args_fill s xs) h.1.rule.head) h.1.same;
       asks = h.1.asks;
     },
   )
@@ -108,8 +109,8 @@ trait_heads : (P : Shape) (g : Asked) → IsTraitKind g.kind → IsMadeOf P rest
 trait_heads P g is h = by_kind g.kind is
   where
     by_kind : (c : Kind) → IsTraitKind c → IsMadeOf P rest (key c g.parts)
-    by_kind (Rattle.goal_answers.specs.Goals.implements t) is = h
-    by_kind (Rattle.goal_answers.specs.Goals.projects k) is = absurd is
+    by_kind (implements t) is = h
+    by_kind (projects k) is = absurd is
 
 -- ---- a goal, with what is known of its holes, and what it reads as
 
@@ -190,7 +191,7 @@ module _ (f : System) (n : ℕ) (s : State) (g read : Goal) (is : IsGoalRead f n
 
   -- ---- selected
 
-  says_one : (table : _) → IsOne (Says table)
+  says_one : (table : TypeAliasId → Term → Option Term) → IsOne (Says table)
   says_one table k w u v a b = (let same : Some u ≡ Some v = sym a ∙ b in cc)
 
   pub selected_read : (raw : RawFacts) → n ≤ raw.limits.goal_depth → Triangular (log s) → (s' : State) (made : Selected) → IsSelectedKnown raw f n s s' read made → IsSelected raw f n s s' g (asked_goal (known_goal s read)) made
@@ -206,3 +207,19 @@ module _ (f : System) (n : ℕ) (s : State) (g read : Goal) (is : IsGoalRead f n
     heads = λ P none x ok sources binds heads. h.heads P none x ok sources binds (λ trait_ concrete. trait_heads P R trait_ (made_wider f.written P sources.written rest R.parts is.args.written));
     depth = h.depth;
   }
+
+  -- or nothing selects it
+  pub selected_as_read : (raw : RawFacts) → n ≤ raw.limits.goal_depth → Triangular (log s) → (s' : State) (o : Option Selected) → IsKnownSelectedIf raw f n s s' read o → IsSelectedIf raw f n s s' g o
+  selected_as_read raw below acyclic s' (Some made) h = (asked_goal (known_goal s read), read_taken acyclic, selected_read raw below acyclic s' made h)
+  selected_as_read raw below acyclic s' None h = (h.0, taken_none f n K (asked_goal (known_goal s read)) (read_taken acyclic) h.1)
+
+-- one that reads as no other
+pub selected_as_it_is : (raw : RawFacts) (f : System) (n : ℕ) (s s' : State) (g : Goal) (o : Option Selected) → IsGoalReadIf f n (asked_goal (known_goal s g)) None
+    → IsKnownSelectedIf raw f n s s' g o → IsSelectedIf raw f n s s' g o
+selected_as_it_is raw f n s s' g (Some made) none h = (asked_goal (known_goal s g), inr (refl, none), h)
+selected_as_it_is raw f n s s' g None none h = (h.0, taken_none f n (asked_goal (known_goal s g)) (asked_goal (known_goal s g)) (inr (refl, none)) h.1)
+
+-- what was read, of a goal with what is known of its holes
+pub read_found : (f : System) (n : ℕ) (s : State) (g known : Goal) (o : Option Goal) → known ≡ known_goal s g → IsGoalReadIf f n (asked_goal known) (option_map asked_goal o)
+    → IsGoalReadIf f n (asked_goal (known_goal s g)) (option_map asked_goal o)
+read_found f n s g known o is h = subst (λ (k : Goal). IsGoalReadIf f n (asked_goal k) (option_map asked_goal o)) is h

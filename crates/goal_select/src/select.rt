@@ -32,8 +32,10 @@ pub fn select_goal(
     ensures given { IfOk result (λ _. IsSystemOf sources.now.facts sources.now.item (system sources.now.sources)) }
     ensures selected { IfOk result (λ found. IsSelectedIf sources.now.facts (system sources.now.sources) depth table.old table.new goal.now found) }
 {
+    table.lawful();
     let known = table.resolve(goal)?;
-    match sources.read_goal(alloc, &known, depth)? {
+    let found = sources.read_goal(alloc, &known, depth)?;
+    match found {
         Some(read) => select_known(alloc, sources, table, &read, depth),
         None => select_known(alloc, sources, table, goal, depth),
     }

@@ -4,7 +4,7 @@ use Rattle.std.specs.Prelude.{Some, slice_get}
 use Rattle.std.specs.List.{range_with_len}
 use Rattle.std.proofs.lemmas.List.{length_push}
 use Rattle.std.proofs.lemmas.Option.{same_Some, slice_get_within}
-use Rattle.infer_goals.specs.Words.{Hole, occurs, hole_number, RawFacts, State, bindings, new_state, Grew, Asked, System, Selects, asked_goal, known_goal, Obligation, GoalTree, IsOpenAt, IsTree, IsLater, IsAsked}
+use Rattle.infer_goals.specs.Words.{Hole, occurs, hole_number, RawFacts, State, bindings, new_state, Grew, Asked, System, SelectsTaken, asked_goal, known_goal, Obligation, GoalTree, IsOpenAt, IsTree, IsLater, IsAsked}
 use Rattle.goal_tree.specs.declared.obligation.Standing.TheVariants as standing
 use Rattle.infer_goals.proofs.Words.{asked_grows}
 use Rattle.infer_goals.specs.Own.{Obligations, Sleepers, AreKept, AreWithin, KeepsOpen, IsSettled, IsListedByHoles, IsAsleep, HasAllOf, HasAllOpen, FallAsleep, IsAmong, IsListed, KeepsListed, ListsHoles, Sleeps, FallsAsleep, AreWoken, IsStirred}
@@ -116,7 +116,7 @@ module _ (f : System) (s s' : State) (t : GoalTree) (z z' : Sleepers) (todo todo
     still_asleep : Sleeps z'.asleep.items i → IsAsleep f s' t z' i
     still_asleep sleeps = record {
       sleeps = sleeps;
-      settled = λ x e by chosen. h.settled x e by (subst (λ (g : Asked). Selects f x.depth g by) (same x e) chosen);
+      settled = λ x e by chosen. h.settled x e by (subst (λ (g : Asked). SelectsTaken f x.depth g by) (same x e) chosen);
       listed = λ x e k o. subst (λ ls. IsListed ls (hole_number k) i) (sym lists) (h.listed x e k (subst (λ (g : Asked). occurs k g.parts ≡ true) (same x e) o));
     }
 

@@ -2,7 +2,7 @@
 use Rattle.std.proofs.Common.{◌≡◌, ◌⊎◌, inl, inr, ℕ, zero, suc, ◌-◌, ◌<◌, ◌≤◌, Bool, true, false, List, [], map, refl, sym, ap, ◌∙◌, subst, arith}
 use Rattle.std.specs.Prelude.{Option, Some, slice_get, IsTrue}
 use Rattle.std.proofs.lemmas.Option.{same_Some, slice_get_within}
-use Rattle.infer_goals.specs.Words.{ExprOrPatId, Goal, RawFacts, State, System, IsDeep, Selected, IsSelected, IsSelectedIf, Obligation, GoalTree, IsOpenAt, IsTree, IsSelectedBy, asked_by}
+use Rattle.infer_goals.specs.Words.{ExprOrPatId, Goal, RawFacts, State, Asked, System, IsDeep, IsTakenAs, asked_goal, known_goal, Selected, IsSelected, IsSelectedIf, Obligation, GoalTree, IsOpenAt, IsTree, IsSelectedBy, asked_by}
 use Rattle.infer_goals.proofs.Words.{mapped_get}
 use Rattle.infer_goals.specs.Own.{Obligations, IsStep, counted, Went, AreKept, AreUsedUp, AreLower}
 use Rattle.infer_goals.proofs.Kept.{kept_step}
@@ -34,7 +34,9 @@ pub record IsTaken (raw : RawFacts) (f : System) (bounded : Bool) (s : State) (o
   pub unused : AreUsedUp raw bounded o → ⊥
   pub listed : slice_get o.tree.obligations.items at ≡ Some obligation
   pub is_open : IsOpenAt o.tree.standings.items at
-  pub found : IsSelected raw f obligation.depth s s' obligation.goal made
+  pub taken : Asked
+  pub is_taken : IsTakenAs f obligation.depth (asked_goal (known_goal s obligation.goal)) taken
+  pub found : IsSelected raw f obligation.depth s s' obligation.goal taken made
   pub by : IsSelectedBy o.tree u at made.source made.preds.items
   pub is_tree : IsTree u
   pub tree : o'.tree ≡ u
@@ -44,14 +46,18 @@ pub taken_by : (raw : RawFacts) (f : System) (bounded : Bool) (s : State) (o : O
     → AreKept raw f s o → (AreUsedUp raw bounded o → ⊥) → slice_get o.tree.obligations.items at ≡ Some x → IsOpenAt o.tree.standings.items at
     → IsSelectedIf raw f x.depth s s' x.goal r → r ≡ Some made → IsSelectedBy o.tree u at made.source made.preds.items → IsTree u → o'.tree ≡ u → o'.selected ≡ counted bounded 1 o.selected
     → IsTaken raw f bounded s o at s' u o'
-taken_by raw f bounded s o at s' u o' x r made kept unused listed now found is by is_tree tree count = record {
+taken_by raw f bounded s o at s' u o' x r made kept unused listed now selected is by is_tree tree count =
+    let found = subst (λ (z : Option Selected). IsSelectedIf raw f x.depth s s' x.goal z) is selected in
+    record {
   obligation = x;
   made = made;
   kept = kept;
   unused = unused;
   listed = listed;
   is_open = now;
-  found = subst (λ (z : Option Selected). IsSelectedIf raw f x.depth s s' x.goal z) is found;
+  taken = found.0;
+  is_taken = found.1;
+  found = found.2;
   by = by;
   is_tree = is_tree;
   tree = tree;
@@ -63,7 +69,7 @@ module _ (raw : RawFacts) (f : System) (bounded : Bool) (s : State) (o : Obligat
   x = h.obligation
 
   step : IsStep raw f s o.tree s' u
-  step = record { at = at; obligation = x; made = h.made; listed = h.listed; is_open = h.is_open; selected = h.found; by = h.by; as_many = h.is_tree.as_many }
+  step = record { at = at; obligation = x; made = h.made; listed = h.listed; is_open = h.is_open; taken = h.taken; is_taken = h.is_taken; selected = h.found; by = h.by; as_many = h.is_tree.as_many }
 
   step_to : IsStep raw f s o.tree s' o'.tree
   step_to = subst (λ (t : GoalTree). IsStep raw f s o.tree s' t) (sym h.tree) step

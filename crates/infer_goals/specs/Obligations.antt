@@ -1,7 +1,7 @@
 -- Goals that were registered: what selects them, step after step, and which are left.
 use Rattle.std.specs.Prelude.{◌≡◌, ◌⊎◌, ◌≤◌, ◌<◌, ◌+◌, ◌-◌, ◌++◌, ℕ, suc, if◌then◌else◌, Bool, true, false, IsTrue, List, [], ◌∷◌, length, slice_get, Some}
 use Rattle.std.specs.List.{range_with_len}
-use Rattle.infer_goals.specs.Words.{RawFacts, State, Meets, Grew, bindings, Fill, IsFilling, System, answers, Choice, Selects, asked_goal, Selected, known_goal, GoalIsOf, IsSelected, Obligation, Standing, GoalTree, IsTree, IsOpenAt, IsSelectedBy, IsRight}
+use Rattle.infer_goals.specs.Words.{RawFacts, State, Meets, Grew, bindings, Fill, IsFilling, Asked, System, answers, Choice, IsTakenAs, SelectsTaken, asked_goal, Selected, known_goal, GoalIsOf, IsSelected, Obligation, Standing, GoalTree, IsTree, IsOpenAt, IsSelectedBy, IsRight}
 use Rattle.goal_tree.specs.declared.obligation.Standing.TheVariants as standing
 use Rattle.infer_goals.specs.declared.obligations.Obligations.{Obligations}
 use Rattle.infer_goals.specs.declared.sleepers.Sleepers.{Sleepers}
@@ -10,14 +10,16 @@ pub use Rattle.infer_goals.specs.Sleepers.{IsAmong}
 
 -- ---- steps of selection
 
--- an obligation that is open is selected by a source, which the table then says
+-- an obligation that is open is selected by a source, as what its goal is taken as, and the table then says so
 pub record IsStep (raw : RawFacts) (f : System) (s : State) (t : GoalTree) (s' : State) (t' : GoalTree) : Type 0 where
   pub at : ℕ
   pub obligation : Obligation
   pub made : Selected
   pub listed : slice_get t.obligations.items at ≡ Some obligation
   pub is_open : IsOpenAt t.standings.items at
-  pub selected : IsSelected raw f obligation.depth s s' obligation.goal made
+  pub taken : Asked
+  pub is_taken : IsTakenAs f obligation.depth (asked_goal (known_goal s obligation.goal)) taken
+  pub selected : IsSelected raw f obligation.depth s s' obligation.goal taken made
   pub by : IsSelectedBy t t' at made.source made.preds.items
   pub as_many : length t'.standings.items ≡ length t'.obligations.items
 
@@ -95,10 +97,10 @@ ScansOpen t here below t' here' below' =
 
 -- ---- what is left
 
--- nothing selects it with what is known of its holes
+-- nothing selects what it is taken as, with what is known of its holes
 abbrev pub IsSettled : System → State → GoalTree → ℕ → Type 0
 IsSettled f s t i = (x : Obligation) → slice_get t.obligations.items i ≡ Some x → (by : Choice)
-    → Selects f x.depth (asked_goal (known_goal s x.goal)) by → ⊥
+    → SelectsTaken f x.depth (asked_goal (known_goal s x.goal)) by → ⊥
 
 -- as many were selected as may be
 abbrev pub AreUsedUp : RawFacts → Bool → Obligations → Type 0

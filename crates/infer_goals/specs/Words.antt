@@ -24,7 +24,7 @@ pub use Rattle.goal_select.specs.Words.{AllOf, Substitution, bound_hole, complet
 pub use Rattle.goal_select.specs.Words.{Gives, GivesNone, HasNoSource, HasSource, IsApart, IsRefuted, Proves, RuleIsRefuted, Shadows, ShadowsNot, YesAt, alias_first, alias_next, answers, nothing, Asked, Each, IsKnown, IsKnownPart, Kind, OneIf, OneOf, Rule, SomeOf, System, Verdicts, args_of, asked_at, implements, is_among, is_trait, key, only, projects, type_of, HasProof, Aliases, Fill, IsFilling, IsRead, IsReadLeaf, MayRead, Reads, ReadsAs, alias, alias_at, plain, role, stands, staying, AreArgs, IsLast, IsNth, SizedYes, field_tail, Choice, IsConcrete, IsDeep, IsTraitKind, Selects, ReadingIs, known_below}
 pub use Rattle.goal_select.specs.Words.{HasHeads, IsHead, role_of, term_is, term_of}
 pub use Rattle.goal_select.specs.Words.{IsSizedAt, asked_of, kind_of, system, Answer, Sources}
-pub use Rattle.goal_select.specs.Words.{AreDistinct, Has, args_at, goal_at, holes, instance, own_params, type_at, BoundSays, IsListed, IsClosure, IsStated, IsSuper, env_preds, env_trait, preds_of_trait, preds_or_none, trait_holes, trait_preds, IsAnswer, ItemSources, asked_goal, trait_goal, HasHolesBelow, assoc_rule, impl_args, impl_holes, impl_rules, rules_for, AreProofs, AreProofsOf, AreProofsUnder, Holds, IsBuiltIn, IsClause, IsImplAt, IsSame, IsSource, IsUnshadowed, MayHaveSource, SaysItself, args_fill, filled_goal, IsReadOrItself, IsTypeRead, TypeReads, IsSystemOf, fact, last_field_of, last_of, sized_by, variant_of, Proof, ProofSource}
+pub use Rattle.goal_select.specs.Words.{AreDistinct, Has, args_at, goal_at, holes, instance, own_params, type_at, BoundSays, IsListed, IsClosure, IsStated, IsSuper, env_preds, env_trait, preds_of_trait, preds_or_none, trait_holes, trait_preds, IsAnswer, ItemSources, asked_goal, trait_goal, HasHolesBelow, assoc_rule, impl_args, impl_holes, impl_rules, rules_for, AreProofs, AreProofsOf, AreProofsUnder, Holds, IsBuiltIn, IsClause, IsImplAt, IsSame, IsSource, IsUnshadowed, MayHaveSource, SaysItself, args_fill, filled_goal, IsReadOrItself, IsTakenAs, IsTypeRead, SelectsTaken, TypeReads, IsSystemOf, fact, last_field_of, last_of, sized_by, variant_of, Proof, ProofSource}
 pub use Rattle.goal_select.specs.Own.{GoalIsOf, HasHeadsIfConcrete, IsSelected, IsSelectedIf, RuleHasHeadsOf, SystemHasHeadsOf, known_goal, only_goal}
 pub use Rattle.goal_select.specs.declared.select.Selected.{Selected}
 pub use Rattle.goal_tree.specs.Own.{HasRightly, IsRight, filled_goals, IsAsked, IsCopied, IsLater, IsOpenAt, IsSelectedBy, IsTree, asked_by, is_pending, opens, pending_of, registered}

@@ -1,10 +1,10 @@
 -- The sources of goals of a function that are concrete have types in scope alone: no associated type is in them.
-use Rattle.std.specs.Prelude.{◌≡◌, ◌<◌, ◌≤◌, ◌+◌, ◌++◌, ℕ, zero, suc, true, List, [], ◌∷◌, length, map, flat_map, slice_get, Option, Some, None, option_map, Bool, false, IfSome, refl}
+use Rattle.std.specs.Prelude.{◌≡◌, ◌<◌, ◌≤◌, ◌+◌, ◌++◌, ℕ, zero, suc, true, List, [], ◌∷◌, length, map, flat_map, slice_get, Option, Some, None, option_map, Bool, false, IfSome, IsTrue, refl}
 use Rattle.std.specs.List.{range_with_len}
 use Rattle.std.proofs.Common.{inl, inr, sym, ap, ◌∙◌, subst, arith, true≢false}
 use Rattle.std.proofs.lemmas.Bool.{ltb-true, lt-ltb, or_cases, or_left, or_right}
 use Rattle.std.proofs.lemmas.List.{length-map}
-use Rattle.infer_obligations.specs.Words.{DefWithBodyId, FunctionId, GenericDefId, TraitId, TypeRefId, Hole, GenericArg, Ty, with_params, map_twice, param_at, types_args_replaced, replaced_bool, replaced_char, replaced_int, replaced_uint, replaced_var, replaced_int_var, replaced_tuple, replaced_adt, replaced_fn_def, replaced, Term, hole, leaf, pair, chain, apply, occurs, hole_number, type_part, term, term_var, term_int_var, RawAdt, RawAssocType, RawFn, RawGoal, RawImpl, RawTrait, RawTraitRef, RawType, RawBody, RawFacts, arg_types, Scope, adt_params, has_params, scope_of, count_or_none, types_scope, type_args, at_args, is_alias, type_parts, filled_within, written_type, AllHold, TraitRefExists, GoalExists, GoalsExist, TraitIdsExist, ImplIdsExist, HoldsProjection, is_one, IsNoProjection, TypeFits, GoalFits, AdtFits, TraitFits, ImplFits, ImplTraitFits, HasNoHole, params_in, wrongs_in, goal_uses, goals_uses, impl_uses, trait_ref_uses, fn_uses, variant_uses, abstract_uses, item_uses, body_of, IsLawful, adt_ids, fn_ids, fns_fit, holes_fit, In, in_first, in_last, in_flat, type_there, FitsUnder, fits_more, Shape, TermRole, whole, part, rest, IsMadeOf, width_apply, hole_eq_same, hole_eq_true, Kind, implements, projects, Asked, Rule, System, Each, key, Fill, IsNth, IsConcrete, IsTraitKind, holes, own_params, type_at, args_at, goal_at, preds_or_none, trait_preds, trait_holes, IsStated, IsSuper, impl_holes, impl_args, assoc_rule, rules_for, impl_rules, fact, IsSystemOf, HasHeadsIfConcrete, RuleHasHeadsOf, SystemHasHeadsOf, scope_item, is_fine_head, item_params, HasFineHeads, Every}
+use Rattle.infer_obligations.specs.Words.{DefWithBodyId, FunctionId, GenericDefId, TraitId, TypeRefId, Hole, GenericArg, Ty, with_params, map_twice, param_at, types_args_replaced, replaced_bool, replaced_char, replaced_int, replaced_uint, replaced_var, replaced_int_var, replaced_tuple, replaced_adt, replaced_fn_def, replaced, Head, Term, hole, leaf, pair, chain, apply, occurs, hole_number, type_part, term, term_var, term_int_var, RawAdt, RawAssocType, RawFn, RawGoal, RawImpl, RawTrait, RawTraitRef, RawType, RawBody, RawFacts, arg_types, Scope, adt_params, has_params, scope_of, count_or_none, types_scope, type_args, at_args, is_alias, type_parts, filled_within, written_type, AllHold, TraitRefExists, GoalExists, GoalsExist, TraitIdsExist, ImplIdsExist, HoldsProjection, is_one, IsNoProjection, TypeFits, GoalFits, AdtFits, TraitFits, ImplFits, ImplTraitFits, HasNoHole, params_in, wrongs_in, goal_uses, goals_uses, impl_uses, trait_ref_uses, fn_uses, variant_uses, abstract_uses, item_uses, body_of, IsLawful, adt_ids, fn_ids, fns_fit, holes_fit, In, in_first, in_last, in_flat, type_there, FitsUnder, fits_more, Shape, TermRole, whole, part, rest, IsMadeOf, width_apply, hole_eq_same, hole_eq_true, Kind, implements, projects, Asked, Rule, System, Each, key, Fill, IsNth, IsConcrete, IsTraitKind, holes, own_params, type_at, args_at, goal_at, preds_or_none, trait_preds, trait_holes, IsStated, IsSuper, impl_holes, impl_args, assoc_rule, rules_for, impl_rules, fact, IsSystemOf, HasHeadsIfConcrete, RuleHasHeadsOf, SystemHasHeadsOf, scope_item, is_fine_head, item_params, HasFineHeads, Every}
 use Rattle.hir_types.specs.declared.ids.DefWithBodyId.TheVariants as def
 use Rattle.hir_types.specs.declared.ids.GenericDefId.TheVariants as generic
 use Rattle.hir_types.specs.declared.head.Head.TheVariants as head
@@ -17,6 +17,7 @@ use Rattle.infer_obligations.specs.Words.hir_facts.Projections.{in_part}
 use Rattle.infer_obligations.specs.Words.goal_facts.Environment.{Follows}
 use Rattle.goal_facts.proofs.Saying.{said_is}
 use Rattle.goal_facts.specs.Own.{said_trait}
+use Rattle.goal_facts.specs.Words.{takes_parts, written_heads}
 use Rattle.infer_obligations.proofs.Words.{each_append, each_get, listed_not_concrete, parts_by, layer, layer_is, args_are, concrete_within, every_at, heads_bool, heads_char, heads_integer, heads_param, heads_tuple, heads_adt, heads_fn_def, found, over_fine, written_heads}
 
 -- ---- lists
@@ -33,6 +34,13 @@ in_mapped : {X Y : Type 0} (f : X → Y) (xs : List X) (k : ℕ) (x : X) → sli
 in_mapped f [] k x at = absurd (cc)
 in_mapped f (z ∷ xs) zero x at = (let same : z ≡ x = cc in (zero, λ i. Some (f (same i))))
 in_mapped f (z ∷ xs) (suc k) x at = let q = in_mapped f xs k x at in (suc q.0, q.1)
+
+-- ---- adts, by how many parameters they have
+
+adt_takes : (xs : List RawAdt) (i k : ℕ) → takes_parts (slice_get (map (λ a. length a.params) xs) i) k ≡ true → has_params (option_map (λ a. length a.params) (slice_get xs i)) k ≡ true
+adt_takes [] i k e = absurd (true≢false (sym e))
+adt_takes (x ∷ xs) zero k e = e
+adt_takes (x ∷ xs) (suc i) k e = adt_takes xs i k e
 
 -- ---- types of fine heads at types of fine heads
 
@@ -505,6 +513,17 @@ module _ (raw : RawFacts) (law : IsLawful raw) where
             subst (IsFineGoal here refl) (sym e)
             (fine_goal here refl n (param_types n) (own_params n) (own_long n) (own_are n) (own_heads here) g (subst (λ m. GoalIsFit m g) count (fn_preds_fit f.0 x is k g at))))
 
+    -- types that can be written in the scope have such heads
+    written_fine : (h : Head) (k : ℕ) → IsTrue (written_heads here.params (map (λ a. length a.params) raw.adts) h k) → IsTrue (is_fine_head here h k)
+    written_fine head.Bool k e = e
+    written_fine head.Char k e = e
+    written_fine (head.Int i) k e = e
+    written_fine (head.Uint i) k e = e
+    written_fine head.Tuple k e = e
+    written_fine (head.Adt id) k e = adt_takes raw.adts id.0 k e
+    written_fine (head.Param i) k e = e
+    written_fine _ k e = absurd (true≢false (sym e))
+
     fn_sources_fine : (s : System) → IsSystemOf raw (generic.FunctionId f) s → SystemHasHeadsOf (is_fine_head here) s
     fn_sources_fine s are =
         let c = are.clauses in
@@ -515,6 +534,7 @@ module _ (raw : RawFacts) (law : IsLawful raw) where
         record {
           clauses = λ i r at. each_get (IsFineRule here refl) s.clauses i r clauses at;
           rules = λ i r at. each_get (IsFineRule here refl) s.rules i r (rules_fine here refl s (generic.FunctionId f) are) at;
+          written = λ h k ok. written_fine h k (subst (λ (P : Shape). IsTrue (P h k)) are.written ok);
         }
 
   -- of a definition with a body

@@ -1,19 +1,19 @@
 -- What an item's goals are answered by is found in some order; their answers are the same in each.
 use Rattle.std.specs.Prelude.{◌≡◌, ℕ, zero, suc, List, map, flat_map, Option}
 use Rattle.std.proofs.Common.{refl, sym, ◌∙◌, subst, subst₂}
-use Rattle.infer_unify.specs.Words.{AdtId, TraitId, GenericDefId, Head, Term, hole, leaf, pair, RawFacts, Aliases, Kind, Asked, Rule, System, IsKnown, self_type, only, is_among, Verdicts, Tail, has_size, has_none, field, last, asked, unclear_tail, tail_of, SizedYes, SizedNo, Gives, GivesNone, alias_next, CannotGive, alias_first, Proves, RuleIsRefuted, Shadows, ShadowsNot, HasSource, HasNoSource, YesAt, NoAt, next, nothing, first, answers, IsStated, IsClosure, IsListed, impl_rules, fact, ClausesAre, RulesAre, IsSystemOf}
+use Rattle.infer_unify.specs.Words.{AdtId, TraitId, GenericDefId, Head, Term, hole, leaf, pair, RawFacts, Aliases, Kind, Asked, Rule, System, Shape, IsKnown, self_type, only, is_among, Verdicts, Tail, has_size, has_none, field, last, asked, unclear_tail, tail_of, SizedYes, SizedNo, Gives, GivesNone, alias_next, CannotGive, alias_first, Proves, RuleIsRefuted, Shadows, ShadowsNot, HasSource, HasNoSource, YesAt, NoAt, next, nothing, first, answers, IsStated, IsClosure, IsListed, impl_rules, fact, ClausesAre, RulesAre, IsSystemOf}
 use Rattle.hir_types.specs.declared.head.Head.TheVariants as head
 use Rattle.infer_unify.proofs.Words.{one_if, or_map, AliasWithin, reads_within, SizedYesBy, SizedNoBy, IsWithin, within_itself, within_twice, next_within, yes_at_more, no_at_more}
 use Rattle.infer_unify.proofs.Over.{IsOver, over_behind, over_made, over_distinct}
 
 -- ---- two that have the same clauses and rules, each in its order
 
-module _ (cs ds rs ss : List Rule) (clauses_over : IsOver cs ds) (rules_over : IsOver rs ss) (sized_traits copied_traits : List TraitId) (last_fields : AdtId → Option Term) (tail_types : ℕ) where
+module _ (cs ds rs ss : List Rule) (clauses_over : IsOver cs ds) (rules_over : IsOver rs ss) (sized_traits copied_traits : List TraitId) (last_fields : AdtId → Option Term) (tail_types : ℕ) (written_types : Shape) where
   abbrev before : System
-  before = record { clauses = cs; rules = rs; sized = sized_traits; copied = copied_traits; last_field = last_fields; tail = tail_types }
+  before = record { clauses = cs; rules = rs; sized = sized_traits; copied = copied_traits; last_field = last_fields; tail = tail_types; written = written_types }
 
   abbrev after : System
-  after = record { clauses = ds; rules = ss; sized = sized_traits; copied = copied_traits; last_field = last_fields; tail = tail_types }
+  after = record { clauses = ds; rules = ss; sized = sized_traits; copied = copied_traits; last_field = last_fields; tail = tail_types; written = written_types }
 
   -- ---- aliases
 
@@ -148,7 +148,8 @@ same_answers raw item f g h k n =
     let copied : f.copied ≡ g.copied = h.copied ∙ sym k.copied in
     let last_field : (a : AdtId) → f.last_field a ≡ g.last_field a = λ a. h.last_field a ∙ sym (k.last_field a) in
     let tail : f.tail ≡ g.tail = h.tail ∙ sym k.tail in
-    let same : after f.clauses g.clauses f.rules g.rules (clauses_same raw item f.clauses g.clauses h.clauses k.clauses) (rules_same raw f.rules g.rules h.rules k.rules) f.sized f.copied f.last_field f.tail ≡ g =
-    λ i. record { clauses = g.clauses; rules = g.rules; sized = sized i; copied = copied i; last_field = λ a. last_field a i; tail = tail i } in
+    let written : f.written ≡ g.written = h.written ∙ sym k.written in
+    let same : after f.clauses g.clauses f.rules g.rules (clauses_same raw item f.clauses g.clauses h.clauses k.clauses) (rules_same raw f.rules g.rules h.rules k.rules) f.sized f.copied f.last_field f.tail f.written ≡ g =
+    λ i. record { clauses = g.clauses; rules = g.rules; sized = sized i; copied = copied i; last_field = λ a. last_field a i; tail = tail i; written = written i } in
     subst (λ (z : System). IsWithin (answers f n) (answers z n)) same
-    (answers_over f.clauses g.clauses f.rules g.rules (clauses_same raw item f.clauses g.clauses h.clauses k.clauses) (rules_same raw f.rules g.rules h.rules k.rules) f.sized f.copied f.last_field f.tail n)
+    (answers_over f.clauses g.clauses f.rules g.rules (clauses_same raw item f.clauses g.clauses h.clauses k.clauses) (rules_same raw f.rules g.rules h.rules k.rules) f.sized f.copied f.last_field f.tail f.written n)

@@ -111,6 +111,7 @@ are_clashing = record {
   copied = are_sources.copied;
   last_field = are_sources.last_field;
   tail = are_sources.tail;
+  written = are_sources.written;
 }
 
 -- no clause says what `<u8 as Tr>::Out` is

@@ -1,9 +1,10 @@
 -- Tables of `fn f() { need(x) }` over the facts of `Impls`, where `x` is a literal: what nodes need, and what goals of `f` are answered by.
-use Rattle.std.proofs.Common.{ℕ, zero, suc, ◌≡◌, List, [], ◌∷◌, map, refl, sym, ap, subst, ◌∙◌, append-nil, Some, None, slice_get}
+use Rattle.std.proofs.Common.{ℕ, zero, suc, ◌≡◌, List, [], ◌∷◌, length, map, refl, sym, ap, subst, ◌∙◌, append-nil, Some, None, slice_get}
 use Rattle.std.specs.Prelude.{flat_map}
 use Rattle.std.specs.Option.{option_and_then}
 use Rattle.hir_types.specs.declared.ids.CallableDefId.TheVariants as callable
 use Rattle.infer_needs.specs.Words.{ExprId, ExprOrPatId, Ty, Ty-F, out-Ty, out-roll-Ty, arg_as_type, Term, term, unit, RawLiteral, type_args, Asked, System, implements, projects, only, Proof, type_at, goal_at, IsListed, IsStated, IsClosure, impl_rules, last_field_of, IsSystemOf, Gap, InferenceResult, Given, GoalReads, IsAboutAlias, item_args, needs_at, IsNeeded, given as given_in}
+use Rattle.goal_facts.specs.Words.{written_heads}
 use Rattle.hir_types.specs.declared.ids.ExprOrPatId.TheVariants as node
 use Rattle.hir_types.specs.declared.ty.Ty.TheVariants as ty
 use Rattle.infer_needs.proofs.Words.{type_layer, args_are, e, w, function, body, item, top_arg}
@@ -94,6 +95,7 @@ sources = record {
   copied = [];
   last_field = λ a. option_and_then (last_field_of facts) (slice_get facts.adts a.0);
   tail = 10;
+  written = written_heads 0 (map (λ a. length a.params) facts.adts);
 }
 
 pub are_sources : IsSystemOf facts own sources
@@ -104,4 +106,5 @@ are_sources = record {
   copied = refl;
   last_field = λ a. refl;
   tail = refl;
+  written = refl;
 }

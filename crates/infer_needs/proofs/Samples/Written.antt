@@ -168,6 +168,7 @@ as_own s of = record {
   copied = of.copied;
   last_field = of.last_field;
   tail = of.tail;
+  written = of.written;
 }
 
 are_shown : IsSystemOf facts (generic.FunctionId shown) sources
@@ -178,6 +179,7 @@ are_shown = record {
   copied = are_sources.copied;
   last_field = are_sources.last_field;
   tail = are_sources.tail;
+  written = are_sources.written;
 }
 
 show_needs : (k j : ℕ) (a : Asked) → slice_get (needs_at facts showing (table []) k) j ≡ Some a → ⊥
