@@ -49,20 +49,20 @@ pub taken_by : (raw : RawFacts) (f : System) (bounded : Bool) (s : State) (o : O
 taken_by raw f bounded s o at s' u o' x r made kept unused listed now selected is by is_tree tree count =
     let found = subst (λ (z : Option Selected). IsSelectedIf raw f x.depth s s' x.goal z) is selected in
     record {
-  obligation = x;
-  made = made;
-  kept = kept;
-  unused = unused;
-  listed = listed;
-  is_open = now;
-  taken = found.0;
-  is_taken = found.1;
-  found = found.2;
-  by = by;
-  is_tree = is_tree;
-  tree = tree;
-  count = count;
-}
+      obligation = x;
+      made = made;
+      kept = kept;
+      unused = unused;
+      listed = listed;
+      is_open = now;
+      taken = found.0;
+      is_taken = found.1;
+      found = found.2;
+      by = by;
+      is_tree = is_tree;
+      tree = tree;
+      count = count;
+    }
 
 module _ (raw : RawFacts) (f : System) (bounded : Bool) (s : State) (o : Obligations) (at : ℕ) (s' : State) (u : GoalTree) (o' : Obligations) (h : IsTaken raw f bounded s o at s' u o') where
   abbrev x : Obligation
