@@ -10,4 +10,5 @@ pub mod Typed
 pub mod Written
 pub mod TypesRead
 pub mod ArgsRead
+pub mod Wider
 pub mod Words

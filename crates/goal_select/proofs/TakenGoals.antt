@@ -2,9 +2,10 @@
 use Rattle.std.proofs.Common.{◌≡◌, ◌≤◌, inl, inr, ℕ, zero, suc, Bool, true, false, map, refl, sym, ap, ◌∙◌, subst, true≢false, List, IsTrue}
 use Rattle.std.specs.Prelude.{Option, Some, None, option_map}
 use Rattle.std.proofs.lemmas.Bool.{false_from_ne_true}
-use Rattle.goal_select.specs.Words.{TypeAliasId, Goal, Head, Hole, HoleKind, Term, hole, leaf, pair, apply, occurs, resolved, resolved_fixed, resolved_free, resolved_apply, Triangular, AreOf, AllOf, Shape, TermRole, whole, part, rest, width, IsMadeOf, RawFacts, State, bindings, Meets, Grew, Fill, IsRead, IsFilling, Aliases, Reads, ReadsAs, Kind, implements, projects, Asked, System, asked_at, key, OneIf, Each, IsOne, HasProof, Says, answers, IsTraitKind, IsConcrete, ProofSource, asked_goal, args_fill, filled_goal, IsGoalRead, IsGoalReadIf, IsTakenAs, SelectsTaken, Selects, Choice, IsSame, IsClause, IsImplAt, IsListedBound, IsBuiltIn, IsUnshadowed, SaysItself, IsSource, MayHaveSource}
+use Rattle.goal_select.specs.Words.{TypeAliasId, Goal, Head, Hole, HoleKind, Term, hole, leaf, pair, apply, occurs, resolved, resolved_fixed, resolved_apply, Triangular, AreOf, AllOf, Shape, rest, IsMadeOf, RawFacts, State, bindings, Meets, Grew, Fill, IsRead, IsFilling, Aliases, Reads, ReadsAs, Kind, implements, projects, Asked, System, asked_at, key, OneIf, Each, IsOne, HasProof, Says, answers, IsTraitKind, IsConcrete, ProofSource, asked_goal, args_fill, filled_goal, IsGoalRead, IsGoalReadIf, IsTakenAs, SelectsTaken, Selects, Choice, IsSame, IsClause, IsImplAt, IsListedBound, IsBuiltIn, IsUnshadowed, SaysItself, IsSource, MayHaveSource}
 use Rattle.goal_facts.specs.declared.proof.ProofSource.TheVariants as source
-use Rattle.goal_select.specs.Words.infer_table.Preserved.{IsHead as IsHeadOf}
+use Rattle.goal_facts.proofs.Wider.{made_wider}
+use Rattle.goal_select.specs.Words.infer_table.LogLemmas.{resolved_free}
 use Rattle.goal_select.proofs.Words.{AliasWithin, answers_stay, answers_are_one, answers_read, reads_read, reads_within, reads_as_filled, reads_one, read_reads, read_filled, resolved_made}
 use Rattle.goal_select.specs.Own.{Selected, known_goal, GoalIsOf, HasHeadsOf, HasHeadsIfConcrete, SystemHasHeadsOf, BringsNoHead, IsRightSource, LosesNothing, IsSelected, IsSelectedIf, IsSelectedKnown, IsKnownSelectedIf}
 use Rattle.goal_select.proofs.Known.{log, known_asks}
@@ -86,24 +87,7 @@ module _ (f : System) (c : Kind) (x y : Term) where
   no_read zero as_read h = (h.0, as_read h.0 h.1, h.2, h.3)
   no_read (suc m) as_read h = (h.0, as_read h.0 h.1, h.2)
 
--- ---- heads that more may stand over
-
-module _ (P Q : Shape) (wider : (h : Head) (n : ℕ) → IsTrue (P h n) → IsTrue (Q h n)) where
-  wider_head : (t : Term) (n : ℕ) → IsHeadOf P t n → IsHeadOf Q t n
-  wider_head (leaf h) n e = wider h n e
-  wider_head (hole k) n e = e
-  wider_head (pair a b) n e = e
-
-  pub made_wider : (r : TermRole) (t : Term) → IsMadeOf P r t → IsMadeOf Q r t
-  made_wider whole (hole k) h = h
-  made_wider whole (leaf x) h = h
-  made_wider whole (pair a b) h = (wider_head a (width b) h.0, made_wider rest b h.1)
-  made_wider part (hole k) h = h
-  made_wider part (leaf x) h = h
-  made_wider part (pair a b) h = (h.0, made_wider whole b h.1)
-  made_wider rest (hole k) h = h
-  made_wider rest (leaf x) h = h
-  made_wider rest (pair a b) h = (made_wider part a h.0, made_wider rest b h.1)
+-- ---- heads
 
 trait_heads : (P : Shape) (g : Asked) → IsTraitKind g.kind → IsMadeOf P rest g.parts → HasHeadsOf P g
 trait_heads P g is h = by_kind g.kind is

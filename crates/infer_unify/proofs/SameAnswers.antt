@@ -1,8 +1,9 @@
 -- What an item's goals are answered by is found in some order; their answers are the same in each.
 use Rattle.std.specs.Prelude.{◌≡◌, ℕ, zero, suc, List, map, flat_map, Option}
 use Rattle.std.proofs.Common.{refl, sym, ◌∙◌, subst, subst₂}
-use Rattle.infer_unify.specs.Words.{AdtId, TraitId, GenericDefId, Head, Term, hole, leaf, pair, RawFacts, Aliases, Kind, Asked, Rule, System, Shape, IsKnown, self_type, only, is_among, Verdicts, Tail, has_size, has_none, field, last, asked, unclear_tail, tail_of, SizedYes, SizedNo, Gives, GivesNone, alias_next, CannotGive, alias_first, Proves, RuleIsRefuted, Shadows, ShadowsNot, HasSource, HasNoSource, YesAt, NoAt, next, nothing, first, answers, IsStated, IsClosure, IsListed, impl_rules, fact, ClausesAre, RulesAre, IsSystemOf}
+use Rattle.infer_unify.specs.Words.{AdtId, TraitId, GenericDefId, Head, Term, hole, leaf, pair, RawFacts, Aliases, Kind, Asked, Rule, System, IsKnown, self_type, only, is_among, Verdicts, Tail, has_size, has_none, field, last, asked, unclear_tail, tail_of, SizedYes, SizedNo, Gives, GivesNone, alias_next, CannotGive, alias_first, Proves, RuleIsRefuted, Shadows, ShadowsNot, HasSource, HasNoSource, YesAt, NoAt, next, nothing, first, answers, IsStated, IsClosure, IsListed, impl_rules, fact, ClausesAre, RulesAre, IsSystemOf}
 use Rattle.hir_types.specs.declared.head.Head.TheVariants as head
+use Rattle.goal_facts.specs.Words.{Shape}
 use Rattle.infer_unify.proofs.Words.{one_if, or_map, AliasWithin, reads_within, SizedYesBy, SizedNoBy, IsWithin, within_itself, within_twice, next_within, yes_at_more, no_at_more}
 use Rattle.infer_unify.proofs.Over.{IsOver, over_behind, over_made, over_distinct}
 
