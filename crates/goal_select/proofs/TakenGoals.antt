@@ -54,14 +54,14 @@ module _ (P : Aliases) (c : Kind) (x y : Term) (as_read : (w : Term) → ReadsAs
   listed_read raw h = (h.0, h.1, h.2, h.3, as_read h.1 h.4, h.5)
 
   built_read : (raw : RawFacts) (f : System) (qs : List Asked) → ((answers f raw.limits.goal_depth).Yes X → (answers f raw.limits.goal_depth).Yes Y) → IsBuiltIn raw f P X qs → IsBuiltIn raw f P Y qs
-  built_read raw f qs yes (inl h) = inl (h.0, h.1, yes h.2)
-  built_read raw f qs yes (inr (inl h)) = inr (inl (h.0, listed_read raw h.1))
-  built_read raw f qs yes (inr (inr h)) = inr (inr (h.0, h.1, as_read h.0 h.2, h.3, h.4))
+  built_read raw f qs told (inl h) = inl (h.0, h.1, told h.2)
+  built_read raw f qs told (inr (inl h)) = inr (inl (h.0, listed_read raw h.1))
+  built_read raw f qs told (inr (inr h)) = inr (inr (h.0, h.1, as_read h.0 h.2, h.3, h.4))
 
   -- they have the same sources
   pub source_read : (raw : RawFacts) (f : System) (s : Fill) (src : ProofSource) (qs : List Asked) → ((answers f raw.limits.goal_depth).Yes X → (answers f raw.limits.goal_depth).Yes Y) → IsSource raw f P s X src qs → IsSource raw f P s Y src qs
-  source_read raw f s (source.Clause g) qs yes h = record { at = h.at; clause = h.clause; listed = h.listed; is = h.is; same = same_read h.clause.head h.same; asks = h.asks }
-  source_read raw f s (source.Impl id xs) qs yes h = (
+  source_read raw f s (source.Clause g) qs told h = record { at = h.at; clause = h.clause; listed = h.listed; is = h.is; same = same_read h.clause.head h.same; asks = h.asks }
+  source_read raw f s (source.Impl id xs) qs told h = (
     unshadowed_read f h.0,
     record {
       item = h.1.item;
@@ -74,8 +74,8 @@ module _ (P : Aliases) (c : Kind) (x y : Term) (as_read : (w : Term) → ReadsAs
       asks = h.1.asks;
     },
   )
-  source_read raw f s source.BuiltIn qs yes (inl h) = inl (h.0, (h.1.0, as_read h.1.0 h.1.1, h.1.2))
-  source_read raw f s source.BuiltIn qs yes (inr h) = inr (unshadowed_read f h.0, built_read raw f qs yes h.1)
+  source_read raw f s source.BuiltIn qs told (inl h) = inl (h.0, (h.1.0, as_read h.1.0 h.1.1, h.1.2))
+  source_read raw f s source.BuiltIn qs told (inr h) = inr (unshadowed_read f h.0, built_read raw f qs told h.1)
 
 module _ (f : System) (c : Kind) (x y : Term) where
   -- and the same answers
