@@ -4,12 +4,12 @@ use Rattle.std.specs.Prelude.{nat_eq}
 use Rattle.std.proofs.Math.Nat.{eq-or-lt_of_le}
 use Rattle.std.proofs.lemmas.Option.{slice_get_within}
 use Rattle.hir_types.specs.declared.head.Head.TheVariants as head
-use Rattle.infer_table.specs.Words.{Hole, HoleKind, Ty, fallback, same_assignments, replaced_var, replaced_int, replaced_int_var, folded_twice, const_folded_twice, Assignment, composed, folded, with_holes, each_itself, Term, hole_eq, term, IsInt, occurs, term_int}
+use Rattle.infer_table.specs.Words.{Hole, HoleKind, Ty, fallback, same_assignments, replaced_var, replaced_int, replaced_int_var, folded_twice, const_folded_twice, Assignment, composed, folded, with_holes, each_itself, Term, hole_eq, term, type_of_term, term_read, IsInt, occurs, term_int}
 use Rattle.hir_types.specs.declared.head.Hole.TheVariants as hole_of
 use Rattle.hir_types.specs.declared.head.HoleKind.TheVariants as kind
 use Rattle.hir_types.specs.declared.ty.IntTy.TheVariants as int
 use Rattle.hir_types.specs.declared.ty.Ty.TheVariants as ty
-use Rattle.infer_table.specs.Own.{Binding, Substitution, bound_hole, found_binding, with_binding, MayBind, completion_of, IsResolved, IsFall, AreFalls, OnlyFalls, IsOpenInt, NoneOpenBelow, FellBack, Shape, whole, IsMadeOf, BindsOnly, resolution, single_assignment, Log, log_of, Free, IsOf, AreOf, State, bindings, IsFront, Grew, Waiting, hole_eq_same}
+use Rattle.infer_table.specs.Own.{Binding, Substitution, bound_hole, found_binding, with_binding, MayBind, completion_of, IsResolved, IsFall, AreFalls, OnlyFalls, IsOpenInt, NoneOpenBelow, FellBack, Shape, whole, IsMadeOf, BindsOnly, OnlyBinds, HasNoLabel, AreBare, AddsBare, still_bare, resolution, single_assignment, Log, log_of, Free, IsOf, AreOf, State, bindings, IsFront, Grew, Waiting, hole_eq_same}
 use Rattle.infer_table.specs.declared.binding.Binding.TheVariants as binding
 use Rattle.infer_table.proofs.BindingLaws.{log_of_append}
 use Rattle.infer_table.proofs.UndoLaws.{front_itself}
@@ -162,7 +162,7 @@ completed_alike (b ∷ bs) cs h =
 
 -- ---- the heads of what is bound
 
-falls_heads : (P : Shape) → P (head.Int int.I32) 0 ≡ true → (bs : List Binding) → AreFalls bs → BindsOnly P (log_of bs)
+falls_heads : (P : Shape) → P (head.Int int.I32) [] ≡ true → (bs : List Binding) → AreFalls bs → BindsOnly P (log_of bs)
 falls_heads P e [] h = tt
 falls_heads P e (binding.Int n t ∷ bs) h =
     (subst (λ u. IsMadeOf P whole (term u)) (sym h.0) (subst (IsMadeOf P whole) (sym (term_int int.I32)) (e, tt)), falls_heads P e bs h.1)
@@ -173,11 +173,27 @@ binds_only_both : (P : Shape) (l m : Log) → BindsOnly P l → BindsOnly P m �
 binds_only_both P [] m h k = k
 binds_only_both P (p ∷ l) m h k = (h.0, binds_only_both P l m h.1 k)
 
-pub binds_only_fallen : (P : Shape) → P (head.Int int.I32) 0 ≡ true → (before after : State) → FellBack before after → BindsOnly P (log_of (bindings before)) → BindsOnly P (log_of (bindings after))
+-- `i32` has no label
+int_bare : HasNoLabel i32
+int_bare = sym (term_read i32) ∙ ap type_of_term (term_int int.I32)
+
+falls_bare : (bs : List Binding) → AreFalls bs → AreBare bs
+falls_bare [] h = tt
+falls_bare (binding.Int n t ∷ bs) h = (subst HasNoLabel (sym h.0) int_bare, falls_bare bs h.1)
+falls_bare (binding.Ty n t ∷ bs) h = absurd h.0
+falls_bare (binding.Const n c ∷ bs) h = absurd h.0
+
+fallen_added : (before after : State) → FellBack before after → AddsBare (bindings before) (bindings after)
+fallen_added before after f = record { more = f.only.falls; is = f.only.log; bare = falls_bare f.only.falls f.only.are }
+
+pub binds_only_fallen : (P : Shape) → P (head.Int int.I32) [] ≡ true → (before after : State) → FellBack before after → OnlyBinds P (bindings before) → OnlyBinds P (bindings after)
 binds_only_fallen P e before after f h =
-    let both = binds_only_both P (log_of (bindings before)) (log_of f.only.falls) h (falls_heads P e f.only.falls f.only.are) in
-    subst (λ (bs : List Binding). BindsOnly P (log_of bs)) (sym f.only.log)
-    (subst (BindsOnly P) (sym (log_of_append (bindings before) f.only.falls)) both)
+    let both = binds_only_both P (log_of (bindings before)) (log_of f.only.falls) h.made (falls_heads P e f.only.falls f.only.are) in
+    record {
+      made = subst (λ (bs : List Binding). BindsOnly P (log_of bs)) (sym f.only.log)
+          (subst (BindsOnly P) (sym (log_of_append (bindings before) f.only.falls)) both);
+      bare = still_bare (bindings before) (bindings after) (fallen_added before after f) h.bare;
+    }
 
 -- ---- the table
 

@@ -1,7 +1,7 @@
 -- Two types opened one after the other, and what unifying them comes to.
 use Rattle.std.proofs.Common.{◌≡◌, ℕ, true, ◌⊎◌, inl, inr, List, [], ◌∷◌, ◌++◌, length, refl, sym, ap, subst, ◌∙◌}
 use Rattle.infer_table.specs.Words.{Hole, HoleKind, Term, apply, occurs}
-use Rattle.infer_table.specs.Own.{Binding, Origin, Log, log_of, Solves, resolved, Triangular, AreOf, Unified, NoneUnifies, Substitution, AllOf, are_of_more, resolved_free, solution, solution_respects, solution_solves, place, alias, opened, origins, AreOrigins, opened_bounds, origins_plain, AreSettled, new_kinds, OriginsOf, origins_of_more, origins_of_append, opened_of, below_of, log_below_of, origins_of, OnlyAdds, first_opened, second_opened, origins_of_both, AreAmong, AreFree, BindsSome, BindsLeast, HolesAreLeft, AreOriginsOf, UnifiesGenerally, IsUnified, GrownFrom, CanBeSame, left_opened, next_number, right_opened, can_be_same, both_agree, plain_unifies, plain_general, plain_next, cannot_be_same, resolved_grown}
+use Rattle.infer_table.specs.Own.{Binding, Origin, Log, log_of, Solves, resolved, Triangular, AreOf, Unified, NoneUnifies, Substitution, AddsBare, adds_both, AllOf, are_of_more, resolved_free, solution, solution_respects, solution_solves, place, alias, opened, origins, AreOrigins, opened_bounds, origins_plain, AreSettled, new_kinds, OriginsOf, origins_of_more, origins_of_append, opened_of, below_of, log_below_of, origins_of, OnlyAdds, first_opened, second_opened, origins_of_both, AreAmong, AreFree, BindsSome, BindsLeast, HolesAreLeft, AreOriginsOf, UnifiesGenerally, IsUnified, GrownFrom, CanBeSame, left_opened, next_number, right_opened, can_be_same, both_agree, plain_unifies, plain_general, plain_next, cannot_be_same, resolved_grown}
 use Rattle.infer_table.proofs.BindingLaws.{log_of_append, binds_of_all}
 use Rattle.infer_table.proofs.HolesLeft.{holes_left}
 
@@ -88,17 +88,13 @@ module _ (s : Substitution) (kinds : List HoleKind) (t u a b v w : Term) (os : L
       cannot_be_same n l a b (below_of s.kinds (resolved l a) (subst T e of_t)) (below_of s.kinds (resolved l b) (subst T f of_u)) (log_below_of s.kinds l (binds_of_all s.kinds s.log all))
       (subst R both.right (subst Q both.left (subst P same none)))
 
-log_grown : (before after : List Binding) → ((bs : List Binding) × (after ≡ before ++ bs)) → GrownFrom (log_of before) (log_of after)
-log_grown before after g = (log_of g.0, ap log_of g.1 ∙ log_of_append before g.0)
-
-append_twice : (xs ys zs : List Binding) → (xs ++ ys) ++ zs ≡ xs ++ (ys ++ zs)
-append_twice [] ys zs = refl
-append_twice (x ∷ xs) ys zs = ap (λ (z : List Binding). x ∷ z) (append_twice xs ys zs)
+log_grown : (before after : List Binding) → AddsBare before after → GrownFrom (log_of before) (log_of after)
+log_grown before after g = (log_of g.more, ap log_of g.is ∙ log_of_append before g.more)
 
 -- the steps from the first state to the last
 pub record StepsBetween (s : Substitution) (log : List Binding) (z y : Substitution) : Type 0 where
   pub opened_log : log ≡ s.log
-  pub equated : (bs : List Binding) × (z.log ≡ log ++ bs)
+  pub equated : AddsBare log z.log
   pub settled : OnlyAdds z y
   pub made_before : AllOf s.kinds s.log
   pub acyclic_before : Triangular (log_of s.log)
@@ -139,10 +135,8 @@ module _ (s : Substitution) (log : List Binding) (z y : Substitution) (t u a b v
       let S : List (ℕ × Term) → Type 0 = λ x. AreSettled (log_of y.log) x in
       let joined : Unified l (log_of z.log) (left_opened n l a) (right_opened n l a b) = subst R both.right (subst Q both.left (subst P steps.opened_log unified)) in
       let g = log_grown z.log y.log steps.settled.added in
-      let more : y.log ≡ s.log ++ (steps.equated.0 ++ steps.settled.added.0) =
-      steps.settled.added.1 ∙ ap (λ (x : List Binding). x ++ steps.settled.added.0) (steps.equated.1 ∙ ap (λ (x : List Binding). x ++ steps.equated.0) steps.opened_log)
-      ∙ append_twice s.log steps.equated.0 steps.settled.added.0 in
-      let f = log_grown s.log y.log (steps.equated.0 ++ steps.settled.added.0, more) in
+      let more : AddsBare log y.log = adds_both log z.log y.log steps.equated steps.settled.added in
+      let f = log_grown s.log y.log (subst (λ (x : List Binding). AddsBare x y.log) steps.opened_log more) in
       let least = binds_least n l (log_of z.log) (log_of y.log) (resolved l a) (resolved l b) (origins_of os) both.origins_are joined some in
       record {
         possible = can_be_same n l (log_of z.log) (log_of y.log) a b g steps.acyclic_after joined;

@@ -46,13 +46,14 @@ are_unified : (before after : State) (a b : Ty) → after.pairs ≡ before.pairs
 are_unified before after a b pairs diverging grows h = record {
   grown = record {
     kinds = grows.kinds;
-    log = grows.log;
+    log = (grows.log.more, grows.log.is);
     made = subst (λ x. (zs : List _) × (x ≡ before.pairs.made ++ zs)) (sym (ap (λ w. w.made) pairs)) (front_itself before.pairs.made);
     taken = subst (λ x. (zs : List _) × (x ≡ before.pairs.taken ++ zs)) (sym (ap (λ w. w.taken) pairs)) (front_itself before.pairs.taken);
     diverging = subst (λ x. (zs : List _) × (x ≡ before.diverging ++ zs)) (sym diverging) (front_itself before.diverging);
   };
   pairs = pairs;
   diverging = diverging;
+  added = grows.log;
   possible = can_be_equal before a b h.possible;
   solvable = h.solvable;
   agree = subst (λ (x : Term). Agree x (resolved_term after b)) (term_at after a) (subst (λ (x : Term). Agree (resolved (log_of (bindings after)) (term a)) x) (term_at after b) h.agree);

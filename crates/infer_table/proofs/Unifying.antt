@@ -6,7 +6,7 @@ use Rattle.std.proofs.lemmas.Bool.{false≢true, both_ways, or_left, or_right, o
 use Rattle.infer_table.specs.Words.{Head, Hole, HoleKind, Const, Ty, Ty-F, out-Ty, roll-out-Ty, OutlinePart, in_ty, folded, Term, hole, occurs, hole_eq, chain, node, const_term, term, ty_step, terms, term_at, part_term, part_terms}
 use Rattle.hir_types.specs.declared.head.Head.TheVariants as head
 use Rattle.hir_types.specs.declared.ty.Const.TheVariants as const
-use Rattle.infer_table.specs.Own.{Binding, Log, log_of, resolved, binds, IsIntHole, Triangular, Free, Kept, IsOf, AreOf, Unified, NoneUnifies, UnifiedIf, Substitution, bound_hole, bound_term, found_binding, with_binding, AllOf, MayBind, IsTypeHole, OnlyAdds, IsOpenHole, IsResolved, IsHeaded, hole_eq_true, hole_eq_same, hole_eq_flip, hole_ne, hole_same, hole_respects, pair_right, IsNoHole, found_binds, found_none as unbound, resolved_fixed, resolved_free, resolution, resolution_term}
+use Rattle.infer_table.specs.Own.{Binding, Log, log_of, resolved, binds, IsIntHole, Triangular, Free, Kept, IsOf, AreOf, Unified, NoneUnifies, UnifiedIf, Substitution, bound_hole, bound_term, found_binding, with_binding, AllOf, MayBind, IsTypeHole, OnlyAdds, IsBare, adds_none, adds_one, adds_both, IsOpenHole, IsResolved, IsHeaded, hole_eq_true, hole_eq_same, hole_eq_flip, hole_ne, hole_same, hole_respects, pair_right, IsNoHole, found_binds, found_none as unbound, resolved_fixed, resolved_free, resolution, resolution_term}
 use Rattle.infer_table.proofs.BindingLaws.{found_log_some, found_log_none, log_of_last, resolved_made}
 use Rattle.infer_table.proofs.UnifyLaws.{unified_bind, unified_if_node, unified_flip, unified_equal, unified_if_flip, unified_if_put_in, unified_if_put_in_left, unified_if_put_in_right, none_occurs, none_nodes, unified_chain_more, none_chain_more, none_chain_length}
 
@@ -15,13 +15,19 @@ use Rattle.infer_table.proofs.UnifyLaws.{unified_bind, unified_if_node, unified_
 pub same_bindings : (s t : Substitution) → t ≡ s → OnlyAdds s t
 same_bindings s t e = record {
   kinds = ap (λ (z : Substitution). z.kinds) e;
-  added = ([], ap (λ (z : Substitution). z.log) e ∙ sym (append-nil s.log));
+  added = adds_none s.log t.log (ap (λ (z : Substitution). z.log) e);
 }
 
 pub more_bindings : (r s t : Substitution) → OnlyAdds r s → OnlyAdds s t → OnlyAdds r t
 more_bindings r s t f g = record {
   kinds = g.kinds ∙ f.kinds;
-  added = (f.added.0 ++ g.added.0, g.added.1 ∙ ap (λ (z : List Binding). z ++ g.added.0) f.added.1 ∙ append_assoc r.log f.added.0 g.added.0);
+  added = adds_both r.log s.log t.log f.added g.added;
+}
+
+pub one_binding : (s t : Substitution) (b : Binding) → IsBare b → t ≡ with_binding s b → OnlyAdds s t
+one_binding s t b bare e = record {
+  kinds = ap (λ (z : Substitution). z.kinds) e;
+  added = adds_one s.log t.log b bare (ap (λ (z : Substitution). z.log) e);
 }
 
 -- ---- holes of types

@@ -1,14 +1,14 @@
 -- What making two types equal does to the bindings.
-use Rattle.std.specs.Prelude.{◌≡◌, ◌++◌, List, None}
+use Rattle.std.specs.Prelude.{◌≡◌, None}
 use Rattle.infer_table.specs.Words.{Head, Hole, Term, leaf, pair}
-use Rattle.infer_table.specs.declared.binding.Binding.{Binding}
+use Rattle.infer_table.specs.Labels.{AddsBare}
 use Rattle.infer_table.specs.Solutions.{log_of, Free, IsOf, AreOf}
 use Rattle.infer_table.specs.Bindings.{Substitution, found_binding, IsTypeHole}
 
--- only bindings are added
+-- only bindings are added, without labels
 pub record OnlyAdds (before after : Substitution) : Type 0 where
   pub kinds : after.kinds ≡ before.kinds
-  pub added : (bs : List Binding) × (after.log ≡ before.log ++ bs)
+  pub added : AddsBare before.log after.log
 
 -- a hole of types that was made and is not bound
 pub record IsOpenHole (s : Substitution) (k : Hole) : Type 0 where

@@ -10,6 +10,7 @@ pub mod Opening
 pub mod OpenedAgree
 pub mod OpenedKinds
 pub mod Resolution
+pub mod Labels
 pub mod Equating
 pub mod Unifying
 pub mod Least

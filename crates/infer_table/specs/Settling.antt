@@ -2,7 +2,7 @@
 use Rattle.std.proofs.Common.{◌≡◌, ℕ, Bool, true, false, ◌⊎◌, List, [], ◌∷◌, ◌++◌, length, Option, Some, None}
 use Rattle.hir_types.specs.declared.head.Hole.TheVariants as hole_of
 use Rattle.infer_table.specs.Words.{HoleKind, Hole, Term, hole, apply, term}
-use Rattle.infer_table.specs.declared.binding.Binding.{Binding}
+use Rattle.infer_table.specs.Labels.{AddsBare}
 use Rattle.infer_table.specs.declared.open.Origin.{Origin}
 use Rattle.infer_table.specs.Solutions.{log_of, Solves, Respects, resolved, IsOf, AreOf, Unified}
 use Rattle.infer_table.specs.Bindings.{Substitution}
@@ -45,10 +45,10 @@ pub record SettlesOrigin (before after : Substitution) (o : Origin) : Type 0 whe
   pub bound : (after ≡ before) ⊎ (Unified (log_of before.log) (log_of after.log) (hole (hole_of.Ty o.hole)) (term o.alias)
       × CanBeAnything (log_of before.log) o.hole)
 
--- holes were made and bindings added
+-- holes were made, and bindings added without labels
 pub record OnlyGrows (before after : Substitution) : Type 0 where
   pub kinds : (ks : List HoleKind) × (after.kinds ≡ before.kinds ++ ks)
-  pub log : (bs : List Binding) × (after.log ≡ before.log ++ bs)
+  pub log : AddsBare before.log after.log
 
 pub record UnifiesGenerally (before after : Substitution) (a b : Term) : Type 0 where
   pub unifies : (s : Hole → Term) → Solves s (log_of after.log) → apply s a ≡ apply s b

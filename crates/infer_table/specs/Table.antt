@@ -9,6 +9,7 @@ use Rattle.infer_table.specs.declared.snapshot.Snapshot.{Snapshot}
 use Rattle.infer_table.specs.Solutions.{log_of, Solves, Respects, AreOf}
 use Rattle.infer_table.specs.Bindings.{Substitution, no_bindings, with_hole}
 use Rattle.infer_table.specs.Resolution.{resolution}
+use Rattle.infer_table.specs.Labels.{AddsBare}
 use Rattle.infer_table.specs.Opened.{Agree, IsPlain, IsReadAs}
 use Rattle.infer_table.specs.Least.{number_after_both, BindsLeast, HolesAreLeft}
 use Rattle.infer_table.specs.Waiting.{Waiting, no_pairs, with_pair, waiting, AllMade, left_at, left_before}
@@ -120,6 +121,7 @@ pub record AreUnified (before after : State) (a b : Ty) : Type 0 where
   pub grown : Grew before after
   pub pairs : after.pairs ≡ before.pairs
   pub diverging : after.diverging ≡ before.diverging
+  pub added : AddsBare (bindings before) (bindings after)
   pub possible : CanBeEqual before a b
   pub solvable : (s : Hole → Term) × Respects s × Meets s after
   pub agree : Agree (resolved_term after a) (resolved_term after b)

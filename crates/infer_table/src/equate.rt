@@ -3,10 +3,11 @@ ghost use Rattle.std.specs.Prelude.{◌≡◌, ◌↔◌, [], true, false, IsTru
 ghost use Rattle.hir_types.specs.declared.head.Hole.TheVariants as hole_of;
 ghost use Rattle.hir_types.specs.declared.ty.Const.TheVariants as const;
 ghost use Rattle.infer_table.specs.Words.{hole, node, chain, occurs, hole_eq, term, const_term, IsInt, part_term, part_terms};
-ghost use Rattle.infer_table.specs.Own.{log_of, IsOf, AreOf, IsIntHole, Kept, UnifiedIf, resolved, bound_hole, bound_term, found_binding, IsTypeHole, OnlyAdds, IsOpenHole, IsResolved, IsHeaded};
+ghost use Rattle.infer_table.specs.Own.{log_of, IsOf, AreOf, IsIntHole, Kept, UnifiedIf, resolved, bound_hole, bound_term, IsBare, found_binding, IsTypeHole, OnlyAdds, IsOpenHole, IsResolved, IsHeaded};
 
 use crate::binding::Binding;
 use crate::bindings::Bindings;
+use crate::erase::without_labels;
 use crate::levels::one_level;
 use hir_types::{Const, Head, Hole, MOST_LEVELS, Outline, OutlinePart, Ty};
 use std::alloc::{AllocError, Global};
@@ -102,15 +103,18 @@ fn may_stand_for(x: Hole, head: Head) -> bool
     }
 }
 
-/// That a hole of types is bound to a type.
-pub(crate) fn binding_to(x: Hole, ty: Ty) -> Binding
+/// That a hole of types is bound to a type, in which labels are left away: types are compared without
+/// them, so what a hole stands for has none.
+pub(crate) fn binding_to(alloc: Global, x: Hole, ty: &Ty) -> Result<Binding, AllocError>
     requires { IsTypeHole x }
-    ensures bound { bound_hole result ≡ x }
-    ensures target { bound_term result ≡ term ty }
+    ensures bound { IfOk result (λ made. bound_hole made ≡ x) }
+    ensures target { IfOk result (λ made. bound_term made ≡ term ty.now) }
+    ensures bare { IfOk result (λ made. IsBare made) }
 {
+    let ty = without_labels(alloc, ty)?;
     match x {
-        Hole::Ty(hole) => Binding::Ty { hole, ty },
-        Hole::Int(hole) | Hole::Const(hole) => Binding::Int { hole, ty },
+        Hole::Ty(hole) => Ok(Binding::Ty { hole, ty }),
+        Hole::Int(hole) | Hole::Const(hole) => Ok(Binding::Int { hole, ty }),
     }
 }
 
@@ -139,7 +143,7 @@ impl Bindings {
     }
 
     /// Makes two open holes equal.
-    fn bind_holes(&mut self, x: Hole, y: Hole) -> Result<bool, AllocError>
+    fn bind_holes(&mut self, alloc: Global, x: Hole, y: Hole) -> Result<bool, AllocError>
         requires left { IsOpenHole self.old x }
         requires right { IsOpenHole self.old y }
         ensures unified { IfOk result (λ yes. UnifiedIf yes (log_of self.old.log) (log_of self.new.log) (hole x) (hole y)) }
@@ -149,7 +153,8 @@ impl Bindings {
             return Ok(true);
         }
         let (bound, target) = self.meet(x, y);
-        self.bind(binding_to(bound, hole_type(target)))?;
+        let binding = binding_to(alloc, bound, &hole_type(target))?;
+        self.bind(binding)?;
         Ok(true)
     }
 
@@ -167,7 +172,8 @@ impl Bindings {
         if stands_in(alloc, x, &ty, MOST_LEVELS)? {
             return Ok(false);
         }
-        self.bind(binding_to(x, ty))?;
+        let binding = binding_to(alloc, x, &ty)?;
+        self.bind(binding)?;
         Ok(true)
     }
 
@@ -180,7 +186,7 @@ impl Bindings {
     {
         let known = self.known(alloc, ty)?;
         let head = match known.outline(alloc)? {
-            Outline::Hole(y) => return self.bind_holes(x, y),
+            Outline::Hole(y) => return self.bind_holes(alloc, x, y),
             Outline::Node(head, _) => head,
         };
         self.bind_type(alloc, x, head, known)

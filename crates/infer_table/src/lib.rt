@@ -5,6 +5,7 @@ mod binding;
 mod bindings;
 mod complete;
 mod equate;
+mod erase;
 mod fall_back;
 mod kinds;
 mod levels;

@@ -44,7 +44,8 @@ impl Bindings {
         if stands_in(alloc, Hole::Ty(hole), &known, MOST_LEVELS)? {
             return Ok(());
         }
-        self.bind(binding_to(Hole::Ty(hole), known))?;
+        let binding = binding_to(alloc, Hole::Ty(hole), &known)?;
+        self.bind(binding)?;
         Ok(())
     }
 
