@@ -1,12 +1,11 @@
 -- One step of selection: what a goal is made equal to, and what its source asks for.
 use Rattle.std.specs.Prelude.{◌≡◌, ◌<◌, ◌≤◌, ◌++◌, ℕ, suc, List, [], ◌∷◌, map, slice_get, Option, Some, None, IsTrue, ◌⊎◌}
 use Rattle.std.specs.List.{range_with_len}
-use Rattle.goal_select.specs.Words.{TraitId, TypeAliasId, Goal, Head, Hole, AliasBound, GenericArg, TraitRef, out-TraitRef, Ty, Ty-F, out-Ty, goal_replaced, with_holes, Term, hole_number, RawFacts, Shape, rest, IsMadeOf, BindsOnly, NoAlias, resolution, AreOf, State, bindings, hole_count, Meets, Grew, Fill, IsRead, IsFilling, ReadsAs, Asked, Rule, System, Each, key, answers, Says, HasProof, Choice, by_clause, by_rule, by_parts, by_size, IsConcrete, IsTraitKind, IsDeep, Selects, ProofSource, trait_goal, asked_goal, filled_goal, IsSource, MayHaveSource}
+use Rattle.goal_select.specs.Words.{TraitId, TypeAliasId, Goal, Head, Hole, AliasBound, GenericArg, TraitRef, out-TraitRef, Ty, Ty-F, out-Ty, goal_replaced, with_holes, Term, hole_number, RawFacts, Shape, rest, IsMadeOf, BindsTypesOf, NoAlias, resolution, AreOf, State, bindings, hole_count, Meets, Grew, Fill, IsRead, IsFilling, ReadsAs, Asked, Rule, System, Each, key, answers, Says, HasProof, Choice, by_clause, by_rule, by_parts, by_size, IsConcrete, IsTraitKind, IsDeep, Selects, ProofSource, trait_goal, asked_goal, filled_goal, IsSource, MayHaveSource}
 use Rattle.hir_types.specs.declared.goal.Goal.TheVariants as goal
 use Rattle.hir_types.specs.declared.head.HoleKind.TheVariants as kind
 use Rattle.hir_types.specs.declared.ty.GenericArg.TheVariants as arg
 use Rattle.hir_types.specs.declared.ty.Ty.TheVariants as ty
-use Rattle.goal_select.specs.Words.infer_table.Solutions.{log_of}
 use Rattle.goal_facts.specs.declared.proof.ProofSource.TheVariants as source
 use Rattle.goal_select.specs.declared.select.Selected.{Selected}
 
@@ -75,9 +74,9 @@ pub record SystemHasHeadsOf (P : Shape) (f : System) : Type 0 where
 -- no head comes into the table, nor into what is asked for, but those of the table, the goal and the sources
 abbrev pub BringsNoHead : System → State → State → Goal → List Goal → Type 0
 BringsNoHead f before after g qs =
-    (P : Shape) → NoAlias P → (h : Head) → IsTrue (P h 0) → SystemHasHeadsOf P f → BindsOnly P (log_of (bindings before))
+    (P : Shape) → NoAlias P → (h : Head) → IsTrue (P h []) → SystemHasHeadsOf P f → BindsTypesOf P (bindings before)
     → HasHeadsIfConcrete P (asked_goal g) →
-    BindsOnly P (log_of (bindings after)) × Each (λ q. HasHeadsIfConcrete P (asked_goal q)) qs
+    BindsTypesOf P (bindings after) × Each (λ q. HasHeadsIfConcrete P (asked_goal q)) qs
 
 -- ---- a step
 

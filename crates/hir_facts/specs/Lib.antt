@@ -30,6 +30,7 @@ pub mod Plain
 pub mod PlainTypes
 pub mod PlainMarks
 pub mod CarriedTypes
+pub mod OpenTerms
 pub mod Filled
 pub mod PlainBodies
 pub mod Readers

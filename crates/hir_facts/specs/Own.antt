@@ -1,7 +1,8 @@
 -- What this crate defines, from one place: for its code and proofs, and for the crates above.
 pub use Rattle.hir_facts.specs.Bodies.{HasBody, HasCarriedBody, IsTypedBefore, IsWalkable, body_id_of, body_of, inputs_by, inputs_of, output_by, return_type}
 pub use Rattle.hir_facts.specs.Carried.{has_carried_trait, is_carried_adt, is_carried_alias, is_carried_args, is_carried_binding, is_carried_body, is_carried_ctor, is_carried_expr, is_carried_fn, is_carried_goal, is_carried_impl, is_carried_kind, is_carried_lang, is_carried_pat, is_carried_stmt, is_carried_trait, is_carried_variant, is_carried_written_type, is_ctor_path, is_empty, is_in_module, is_type_param}
-pub use Rattle.hir_facts.specs.CarriedTypes.{AreCarriedArgs, AreCarriedTypes, IsCarriedType, carried_adt, carried_arg, carried_associated, carried_bare, carried_bool, carried_bound, carried_char, carried_error, carried_fn_def, carried_integer, carried_param, carried_step, carried_trait, carried_tuple, carried_type_arg, is_carried_arg, is_carried_type, same_carried, written_carried}
+pub use Rattle.hir_facts.specs.OpenTerms.{holds_hole, none_occurs, open_term}
+pub use Rattle.hir_facts.specs.CarriedTypes.{AreCarriedArgs, AreCarriedTypes, IsCarriedArg, IsCarriedType, carried_adt, carried_bool, carried_char, carried_error, carried_fn_def, carried_integer, carried_param, carried_tuple, carried_type_arg, same_carried, written_carried}
 pub use Rattle.hir_facts.specs.Counts.{AdtFits, AdtFitsBy, AliasFits, AliasFitsBy, AreFitting, ArgsFit, BodyFits, ConstFits, CountsFit, FnFits, FnFitsBy, GoalFits, GoalsFit, HasVariants, ImplFits, ImplFitsBy, ImplTraitFits, IsBare, MaybeBodyFits, MentionFits, TraitFits, TraitFitsBy, TypeFits, VariantFits, VariantFitsBy, body_at, count_of, param_count, trait_params}
 pub use Rattle.hir_facts.specs.Entries.{AllHold, BreaksAt}
 pub use Rattle.hir_facts.specs.Existing.{binder_exists, constructor_exists, constructor_pattern_exists, function_exists, tuple_struct_exists}

@@ -24,6 +24,8 @@ pub record Scope : Type 0 where
   pub params : ℕ
   -- whether associated types that stay may be types in it
   pub associated : Bool
+  -- whether types of later kinds may be
+  pub later : Bool
 
 -- the function or constructor that a path names, where it names one
 abbrev pub names_item : RawPath → Option CallableDefId
@@ -85,9 +87,9 @@ count_or_none (Some n) = n
 
 -- ---- how many are in scope
 
--- of written types: none of these is an associated type that stays
+-- of written types: none of these is an associated type that stays, or of a later kind
 abbrev pub types_scope : RawFacts → ℕ → Scope
-types_scope raw n = record { facts = raw; params = n; associated = false }
+types_scope raw n = record { facts = raw; params = n; associated = false; later = false }
 
 -- in the types of an item
 abbrev pub generic_params : RawFacts → GenericDefId → ℕ
@@ -125,4 +127,4 @@ has_associated raw (def.FunctionId f) = has_associated_by raw (slice_get raw.fns
 has_associated raw _ = false
 
 abbrev pub scope_of : RawFacts → DefWithBodyId → Scope
-scope_of raw d = record { facts = raw; params = params_of raw d; associated = has_associated raw d }
+scope_of raw d = record { facts = raw; params = params_of raw d; associated = has_associated raw d; later = false }

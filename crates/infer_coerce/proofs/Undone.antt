@@ -1,6 +1,6 @@
 -- A table gone back, with some holes more that nothing names.
 use Rattle.std.proofs.Common.{refl, sym, subst, arith}
-use Rattle.infer_coerce.specs.Words.{terms_of, BindsOnly, Solves, State, Grew, IsBack, IsFront, bindings, Waiting, waiting, stays_with, IsOfBody, Given, with_table, InferenceContext, IsSound, AreFinePairs, is_fine_head, OnlyBinds}
+use Rattle.infer_coerce.specs.Words.{terms_of, BindsTypesOf, Solves, State, Grew, IsBack, IsFront, bindings, Waiting, waiting, stays_with, IsOfBody, Given, with_table, InferenceContext, IsSound, AreFinePairs, is_fine_head, OnlyBinds}
 use Rattle.infer_coerce.specs.Words.infer_table.Solutions.{log_of}
 use Rattle.infer_coerce.proofs.Words.{front_itself, told_same, kept_later, fine_asked_grown, fine_pairs_grown, seen_fine_grown, table_fine_grown}
 
@@ -22,7 +22,7 @@ module _ (g : Given) (c : InferenceContext) (after : State) (b : IsBack c.goals.
     kept = kept_later c.goals.table after c.asked back_grew b.pairs s.kept;
     pairs = fine_pairs_grown g.scope c.goals.table after (waiting after.pairs) back_grew
         (subst (λ w. AreFinePairs g.scope c.goals.table (waiting w)) (sym b.pairs) s.pairs);
-    bound = subst (λ bs. BindsOnly (is_fine_head g.scope) (log_of bs)) (sym b.log) s.bound;
+    bound = subst (BindsTypesOf (is_fine_head g.scope)) (sym b.log) s.bound;
     some = (
       s.some.0,
       record {

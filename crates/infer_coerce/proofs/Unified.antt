@@ -1,7 +1,7 @@
 -- Two types unified, or refused, at an expression.
 use Rattle.std.proofs.Common.{◌≡◌, refl, subst, sym, Bool, ◌∙◌, true, false, arith, ℕ, zero, suc, ◌+◌, ◌++◌, if◌then◌else◌, List, [], ◌∷◌, length, Some, slice_get, ◌⊎◌, inl, inr, ap, None, ◌<◌, Option, Ok, Err}
 use Rattle.std.proofs.Math.Nat.{eq-or-lt_of_le}
-use Rattle.infer_coerce.specs.Words.{IntegerTy, term, IsInt, hole, terms_of, term_bool, term_char, term_error, term_param, term_tuple, term_adt_types, term_fn_def_types, term_associated_types, integer_type, Hole, Ty, Assignment, composed, folded, ExprId, IsCarriedType, carried_error, Scope, fallback, completion, whole, IsMadeOf, BindsOnly, made_of_resolved, unified_makes_same, refused_apart, binds_only_unified, resolution, resolution_terms, IsOpenOrKnown, Respects, Solves, State, bindings, Meets, AreUnified, AreRefused, AreUnifiedIf, Grew, TakesFirstKnown, TakesKnown, resolved_type, resolved_term, is_type_hole, with_waiting, waiting, Waiting, with_pair, is_taken, WaitingPair, Substitution, stays_with, IsOfBody, Given, mismatch, At, TypeMismatch, IsClosing, Closes, IsSound, IsDecided, IsAwaited, AskedIsKept, AskedIsDecided, closed_mismatch, closed_mismatches, closed_table, found_under, same_types, is_fine_head, HasFineHeads, IsFine, AreFinePairs, InferenceContext, OnlyBinds, waiting_at, with_table, noted, IsTold}
+use Rattle.infer_coerce.specs.Words.{IntegerTy, term, IsInt, hole, terms_of, term_bool, term_char, term_error, term_param, term_tuple, term_adt_types, term_fn_def_types, term_associated_types, integer_type, Hole, Ty, Assignment, composed, folded, ExprId, IsCarriedType, carried_error, Scope, fallback, completion, whole, IsMadeOf, BindsTypesOf, made_of_resolved, unified_makes_same, refused_apart, binds_only_unified, resolution, resolution_terms, IsOpenOrKnown, Respects, Solves, State, bindings, Meets, AreUnified, AreRefused, AreUnifiedIf, Grew, TakesFirstKnown, TakesKnown, resolved_type, resolved_term, is_type_hole, with_waiting, waiting, Waiting, with_pair, is_taken, WaitingPair, Substitution, stays_with, IsOfBody, Given, mismatch, At, TypeMismatch, IsClosing, Closes, IsSound, IsDecided, IsAwaited, AskedIsKept, AskedIsDecided, closed_mismatch, closed_mismatches, closed_table, found_under, same_types, is_fine_head, HasFineHeads, IsFine, AreFinePairs, InferenceContext, OnlyBinds, waiting_at, with_table, noted, IsTold}
 use Rattle.hir_types.specs.declared.ty.IntegerTy.TheVariants.{Int, Uint}
 use Rattle.hir_types.specs.declared.head.Hole.TheVariants as hole_of
 use Rattle.hir_types.specs.declared.ty.IntTy.TheVariants as int
@@ -29,7 +29,7 @@ integer_of = record {
   associated = λ id ts all h. absurd (subst IsInt (term_associated_types id ts) h);
 }
 
-module _ (sc : Scope) (state : State) (h : BindsOnly (is_fine_head sc) (log_of (bindings state))) where
+module _ (sc : Scope) (state : State) (h : BindsTypesOf (is_fine_head sc) (bindings state)) where
   pub bound_heads : (k : Hole) → IsMadeOf (is_fine_head sc) whole (terms_of (resolution (bindings state)) k)
   bound_heads k = subst (λ t. IsMadeOf (is_fine_head sc) whole t) (sym (resolution_terms (bindings state) k)) (made_of_resolved (is_fine_head sc) (log_of (bindings state)) (hole k) h tt)
 
@@ -204,7 +204,7 @@ module _ (g : Given) (c : InferenceContext) (h : IsOfBody g.body c.result) (s : 
       asked = λ n m i. absurd (cc);
       kept = λ n m i. absurd (cc);
       pairs = fine_pairs_grown g.scope c.goals.table mid (waiting mid.pairs) k.grown left_pairs;
-      bound = subst (λ bs. BindsOnly (is_fine_head g.scope) (log_of bs)) same_log s.bound;
+      bound = subst (BindsTypesOf (is_fine_head g.scope)) same_log s.bound;
       some = (s.some.0, record { closing = s.some.1.closing; meets = subst (λ bs. Solves (terms_of s.some.0) (log_of bs)) same_log s.some.1.meets });
     }
 

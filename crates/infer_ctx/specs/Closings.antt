@@ -1,6 +1,6 @@
 -- What a context comes to under an assignment of closed types to its holes.
 use Rattle.std.specs.Prelude.{◌≡◌, ℕ, List, map, Option, option_map, Bool, true, false, Some, None, [], ◌∷◌, slice_get, ◌⊎◌}
-use Rattle.infer_ctx.specs.Words.{IntegerTy, Assignment, folded, integer_type, terms_of, Ty, IsCarriedType, Scope, Meets, State, bindings, WaitingPair, waiting, BindsOnly, TypeMismatch, mismatch, At, InferenceResult, AllTypes, AllSeen}
+use Rattle.infer_ctx.specs.Words.{IntegerTy, Assignment, folded, integer_type, terms_of, Ty, IsCarriedType, Scope, Meets, State, bindings, WaitingPair, waiting, BindsTypesOf, TypeMismatch, mismatch, At, InferenceResult, AllTypes, AllSeen}
 use Rattle.hir_types.specs.contracts.ty.TyPartialEq.TheImpl as same
 use Rattle.infer_ctx.specs.Words.infer_table.Solutions.{log_of}
 use Rattle.infer_ctx.specs.declared.context.InferenceContext.{InferenceContext}
@@ -116,5 +116,5 @@ pub record IsSound (sc : Scope) (c : InferenceContext) : Type 0 where
   pub asked : IsFineAsked sc c.goals.table c.asked
   pub kept : AskedIsKept c.goals.table c.asked
   pub pairs : AreFinePairs sc c.goals.table (waiting c.goals.table.pairs)
-  pub bound : BindsOnly (is_fine_head sc) (log_of (bindings c.goals.table))
+  pub bound : BindsTypesOf (is_fine_head sc) (bindings c.goals.table)
   pub some : (a : Assignment) × Closes a c

@@ -1,6 +1,6 @@
 -- What is found out about a body holds where more is known of its holes.
 use Rattle.std.proofs.Common.{◌≡◌, List, refl, subst, Option}
-use Rattle.infer_end.specs.Words.{terms_of, DefWithBodyId, GenericDefId, RawBody, RawFacts, completion, BindsOnly, Respects, Meets, bindings, IsSystemOf, system, GoalTable, AreKept, scope_item, Given, Ty, given_by, InferenceContext, IsTold, with_goal_table, is_fine_head, BodyDone, AreSelected, IsSelection}
+use Rattle.infer_end.specs.Words.{terms_of, DefWithBodyId, GenericDefId, RawBody, RawFacts, completion, BindsTypesOf, Respects, Meets, bindings, IsSystemOf, system, GoalTable, AreKept, scope_item, Given, Ty, given_by, InferenceContext, IsTold, with_goal_table, is_fine_head, BodyDone, AreSelected, IsSelection}
 use Rattle.infer_end.specs.Words.infer_table.Solutions.{log_of}
 use Rattle.infer_end.proofs.Words.{fine_no_alias, decided_later, closes_earlier, StaysApart, selected_apart, selected_heads, sound_later}
 
@@ -10,7 +10,7 @@ module _ (g : Given) (c : InferenceContext) (done : BodyDone g c) (told : IsTold
   apart : StaysApart c.goals.table goals.table
   apart = selected_apart c.goals.sources.facts (system c.goals.sources.sources) c.goals.table c.goals.obligations goals.table goals.obligations selected
 
-  bound : BindsOnly (is_fine_head g.scope) (log_of (bindings goals.table))
+  bound : BindsTypesOf (is_fine_head g.scope) (bindings goals.table)
   bound =
       selected_heads c.goals.sources.facts (system c.goals.sources.sources) (is_fine_head g.scope) (fine_no_alias g.scope) refl (told.goals.sources.heads of_item) c.goals.table c.goals.obligations goals.table goals.obligations selected
       (record { binds = done.sound.bound; goals = told.goals.heads })

@@ -110,7 +110,7 @@ module _ (raw : RawFacts) (n : ℕ) where
   layer_same (Ty-F.IntVar i) = refl
   layer_same Ty-F.Hole = refl
 
-  arg_layer_same : (x : GenericArg-F GenericArg Ty AliasBound TraitRef) → is_fit_arg raw n (arg_step (in_arg terms x)) ≡ (fit_steps (record { facts = raw; params = n; associated = true })).arg (in_arg on_terms x)
+  arg_layer_same : (x : GenericArg-F GenericArg Ty AliasBound TraitRef) → is_fit_arg raw n (arg_step (in_arg terms x)) ≡ (fit_steps (record { facts = raw; params = n; associated = true; later = true })).arg (in_arg on_terms x)
   arg_layer_same (GenericArg-F.Ty t) = refl
   arg_layer_same (GenericArg-F.Const c) = refl
 

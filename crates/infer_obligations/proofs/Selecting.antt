@@ -3,7 +3,7 @@
 use Rattle.std.specs.Prelude.{◌≡◌, ◌-◌, ◌++◌, ℕ, Bool, true, false, List, [], ◌∷◌, flat_map, map, slice_get, Some, IsTrue, refl}
 use Rattle.std.proofs.Common.{inl, inr, sym, ap, ◌∙◌, subst, append-nil}
 use Rattle.std.proofs.lemmas.Grind.{flat_map-append}
-use Rattle.infer_obligations.specs.Words.{ExprOrPatId, Goal, RawFacts, Shape, NoAlias, BindsOnly, State, bindings, Grew, System, asked_goal, HasHeadsIfConcrete, SystemHasHeadsOf, Obligation, GoalTree, asked_by, Obligations, IsStep, AreSteps, Went, asked_by_node, TreeHasHeadsOf}
+use Rattle.infer_obligations.specs.Words.{ExprOrPatId, Goal, RawFacts, Shape, NoAlias, BindsTypesOf, State, bindings, Grew, System, asked_goal, HasHeadsIfConcrete, SystemHasHeadsOf, Obligation, GoalTree, asked_by, Obligations, IsStep, AreSteps, Went, asked_by_node, TreeHasHeadsOf}
 use Rattle.hir_types.specs.declared.head.Head.TheVariants as head
 use Rattle.hir_types.specs.declared.ty.IntTy.TheVariants as int
 use Rattle.infer_obligations.specs.Words.infer_table.Solutions.{log_of}
@@ -70,10 +70,10 @@ module _ (raw : RawFacts) (f : System) where
 
 -- the table binds holes to these heads alone, and concrete goals have no others
 pub record HaveHeads (P : Shape) (s : State) (t : GoalTree) : Type 0 where
-  pub binds : BindsOnly P (log_of (bindings s))
+  pub binds : BindsTypesOf P (bindings s)
   pub goals : TreeHasHeadsOf P t
 
-module _ (raw : RawFacts) (f : System) (P : Shape) (none : NoAlias P) (is : IsTrue (P (head.Int int.I32) 0)) where
+module _ (raw : RawFacts) (f : System) (P : Shape) (none : NoAlias P) (is : IsTrue (P (head.Int int.I32) [])) where
   step_has : SystemHasHeadsOf P f → (s : State) (t : GoalTree) (s' : State) (t' : GoalTree) → IsStep raw f s t s' t' → HaveHeads P s t → HaveHeads P s' t'
   step_has sources s t s' t' step h =
       let x = step.obligation in
@@ -96,7 +96,7 @@ module _ (raw : RawFacts) (f : System) (P : Shape) (none : NoAlias P) (is : IsTr
   pub went_heads : SystemHasHeadsOf P f → (bounded : Bool) (s : State) (o : Obligations) (s' : State) (o' : Obligations) → Went raw f bounded s o s' o' → HaveHeads P s o.tree → HaveHeads P s' o'.tree
   went_heads sources bounded s o s' o' w h = steps_have sources w.states s o.tree s' o'.tree w.steps h
 
-  pub selected_heads : SystemHasHeadsOf P f → (s : State) (o : Obligations) (s' : State) (o' : Obligations) → AreSelected raw f s o s' o' → HaveHeads P s o.tree → BindsOnly P (log_of (bindings s'))
+  pub selected_heads : SystemHasHeadsOf P f → (s : State) (o : Obligations) (s' : State) (o' : Obligations) → AreSelected raw f s o s' o' → HaveHeads P s o.tree → BindsTypesOf P (bindings s')
   selected_heads sources s o s' o' h have =
       let first = went_heads sources true s o h.bounded_table h.bounded h.went have in
       let fallen = binds_only_fallen P is h.bounded_table h.fallen_table h.fell first.binds in

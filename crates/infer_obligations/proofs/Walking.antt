@@ -1,6 +1,6 @@
 -- What is found out about a body holds where goals are selected: more is known of its holes then.
 use Rattle.std.proofs.Common.{◌≡◌, ◌∙◌, refl, sym, subst, arith, Bool}
-use Rattle.infer_obligations.specs.Words.{terms_of, completion, BindsOnly, Respects, Grew, Meets, bindings, waiting, ItemSources, IsSystemOf, system, GoalTable, AreKept, HasAllOpen, Went, NoneLeft, AreCounted, IsOfBody, Given, AreSourcesIn, AreGoalsOf, IsTold, IsSound, with_goal_table, is_fine_head, AreFinePairs, InferenceContext, UnifiesKnown}
+use Rattle.infer_obligations.specs.Words.{terms_of, completion, BindsTypesOf, Respects, Grew, Meets, bindings, waiting, ItemSources, IsSystemOf, system, GoalTable, AreKept, HasAllOpen, Went, NoneLeft, AreCounted, IsOfBody, Given, AreSourcesIn, AreGoalsOf, IsTold, IsSound, with_goal_table, is_fine_head, AreFinePairs, InferenceContext, UnifiesKnown}
 use Rattle.infer_obligations.specs.Words.infer_table.Solutions.{log_of}
 use Rattle.infer_obligations.proofs.Words.{went_counted, fine_no_alias, table_fine_grown, seen_fine_grown, fine_pairs_grown, fine_asked_grown, kept_later, completion_closing, binds_twice}
 use Rattle.infer_obligations.specs.Own.{SelectsAlone, SelectsInWalk}
@@ -9,7 +9,7 @@ use Rattle.infer_obligations.proofs.Selecting.{StaysApart, HaveHeads, went_apart
 -- ---- with a table of goals that knows more
 
 module _ (g : Given) (c : InferenceContext) (s : IsSound g.scope c) (goals : GoalTable) (grew : Grew c.goals.table goals.table) (pairs : goals.table.pairs ≡ c.goals.table.pairs)
-    (bound : BindsOnly (is_fine_head g.scope) (log_of (bindings goals.table))) (meets : Meets (terms_of (completion goals.table)) goals.table) (respects : Respects (terms_of (completion goals.table))) where
+    (bound : BindsTypesOf (is_fine_head g.scope) (bindings goals.table)) (meets : Meets (terms_of (completion goals.table)) goals.table) (respects : Respects (terms_of (completion goals.table))) where
   pub sound_later : IsSound g.scope (with_goal_table c goals)
   sound_later = record {
     fine = table_fine_grown g.scope c.goals.table goals.table c.result grew s.fine;

@@ -6,7 +6,7 @@ use Rattle.infer_result.specs.Words.{Ty, term, RawFacts, Scope, adt_params, alia
 
 -- the scope of a body, from its parts
 abbrev pub body_scope : RawFacts → ℕ → Bool → Scope
-body_scope raw n b = record { facts = raw; params = n; associated = b }
+body_scope raw n b = record { facts = raw; params = n; associated = b; later = false }
 
 -- The heads of types that can be written in this scope, or are associated types that stay, and over how many parts.
 abbrev pub is_read_head : Scope → Shape

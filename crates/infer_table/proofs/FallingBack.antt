@@ -9,7 +9,7 @@ use Rattle.hir_types.specs.declared.head.Hole.TheVariants as hole_of
 use Rattle.hir_types.specs.declared.head.HoleKind.TheVariants as kind
 use Rattle.hir_types.specs.declared.ty.IntTy.TheVariants as int
 use Rattle.hir_types.specs.declared.ty.Ty.TheVariants as ty
-use Rattle.infer_table.specs.Own.{Binding, Substitution, bound_hole, found_binding, with_binding, MayBind, completion_of, IsResolved, IsFall, AreFalls, OnlyFalls, IsOpenInt, NoneOpenBelow, FellBack, Shape, whole, IsMadeOf, BindsOnly, OnlyBinds, HasNoLabel, AreBare, AddsBare, still_bare, resolution, single_assignment, Log, log_of, Free, IsOf, AreOf, State, bindings, IsFront, Grew, Waiting, hole_eq_same}
+use Rattle.infer_table.specs.Own.{Binding, Substitution, bound_hole, found_binding, with_binding, MayBind, completion_of, IsResolved, IsFall, AreFalls, OnlyFalls, IsOpenInt, NoneOpenBelow, FellBack, Shape, whole, IsMadeOf, BindsOnly, BindsTypesOf, HasNoLabel, AreBare, AddsBare, still_bare, resolution, single_assignment, Log, log_of, Free, IsOf, AreOf, State, bindings, IsFront, Grew, Waiting, hole_eq_same}
 use Rattle.infer_table.specs.declared.binding.Binding.TheVariants as binding
 use Rattle.infer_table.proofs.BindingLaws.{log_of_append}
 use Rattle.infer_table.proofs.UndoLaws.{front_itself}
@@ -186,7 +186,7 @@ falls_bare (binding.Const n c ∷ bs) h = absurd h.0
 fallen_added : (before after : State) → FellBack before after → AddsBare (bindings before) (bindings after)
 fallen_added before after f = record { more = f.only.falls; is = f.only.log; bare = falls_bare f.only.falls f.only.are }
 
-pub binds_only_fallen : (P : Shape) → P (head.Int int.I32) [] ≡ true → (before after : State) → FellBack before after → OnlyBinds P (bindings before) → OnlyBinds P (bindings after)
+pub binds_only_fallen : (P : Shape) → P (head.Int int.I32) [] ≡ true → (before after : State) → FellBack before after → BindsTypesOf P (bindings before) → BindsTypesOf P (bindings after)
 binds_only_fallen P e before after f h =
     let both = binds_only_both P (log_of (bindings before)) (log_of f.only.falls) h.made (falls_heads P e f.only.falls f.only.are) in
     record {

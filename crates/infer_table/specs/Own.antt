@@ -15,7 +15,7 @@ pub use Rattle.infer_table.specs.OpenedKinds.{OriginsOf, below_of, log_below_of,
 pub use Rattle.infer_table.specs.OpenedLaws.{AreOrigins, IsBelow, LogIsBelow, Reads_at, opened_bounds, opened_plain, origins_plain, reads_apply, solves_same}
 pub use Rattle.infer_table.specs.OpenedLists.{Opens, OpensParts, args_push, bounds_push, bounds_terms, opens_adt, opens_arg_const, opens_array, opens_associated_type, opens_closure, opens_dynamic, opens_fn_def, opens_fn_ptr, opens_tuple, principal_terms, types_push}
 pub use Rattle.infer_table.specs.Opening.{OnlyMakes, makes_both, origins_of}
-pub use Rattle.infer_table.specs.Preserved.{AreMadeOf, BindsOnly, IsEnd, IsHead, IsMadeOf, IsMark, IsPartMark, IsTypeOf, IsWider, NoAlias, NoMark, OnlyBinds, Shape, TermRole, apply_resolved_term, binds_only_unified, leaf_mark, made_of_apply, made_of_resolved, made_of_resolved_term, made_of_within, made_wider, mark_of, marks, marks_apply, meets_before, only, only_apply, only_is_made, only_solves, part, part_mark, plain_of, plain_rest, refused_apart, rest, solved_only, type_of_folded, type_of_resolved, unified_makes_same, whole}
+pub use Rattle.infer_table.specs.Preserved.{AreMadeOf, BindsOnly, IsEnd, IsMadeOf, IsMark, IsPartMark, IsTypeOf, IsWider, NoAlias, NoMark, BindsTypesOf, Shape, TermRole, all_types, apply_resolved_term, has_types, no_parts, takes_types, binds_only_unified, leaf_mark, made_of_apply, made_of_resolved, made_of_resolved_term, made_of_within, made_wider, mark_of, marks, marks_apply, meets_before, only_apply, only_heads, only_is_made, only_solves, part, part_mark, plain_of, plain_rest, refused_apart, rest, solved_only, type_of_folded, type_of_resolved, unified_makes_same, whole, width}
 pub use Rattle.infer_table.specs.Resolution.{IsOpenOrKnown, const_found, const_in_log, found_const, found_const_var, found_for, found_for_folded, found_for_in_log, found_type, no_const_found, none_for, open_const_var, open_int_var, open_var, resolution, resolution_const_term, resolution_term, resolution_terms, single_assignment, terms_composed}
 pub use Rattle.infer_table.specs.Settling.{AreOriginsOf, IsOriginOf, IsTypeHoleIf, IsUnified, OnlyGrows, Settled, SettlesOrigin, Unifies, UnifiesGenerally, UnifiesOrStays}
 pub use Rattle.infer_table.specs.Solutions.{Absent, AreOf, Free, IsIntHole, IsOf, Kept, Log, NoneUnifies, Respects, Solves, Triangular, Unified, UnifiedIf, binds, entry, found, hole_kind, log_of, resolved, single, sub}

@@ -1,7 +1,7 @@
 -- Which heads stand in types and in what holes are bound to, over which parts each, and that unification brings in no
 -- others.
 use Rattle.std.specs.Prelude.{nat_eq}
-use Rattle.std.proofs.Common.{◌≡◌, ℕ, Bool, true, false, cond, if◌then◌else◌, List, [], ◌∷◌, IsTrue, refl, sym, ap, ap₂, subst, ◌∙◌}
+use Rattle.std.proofs.Common.{◌≡◌, ℕ, zero, suc, Option, Some, None, Bool, true, false, cond, if◌then◌else◌, List, [], ◌∷◌, IsTrue, refl, sym, ap, ap₂, subst, ◌∙◌}
 use Rattle.std.proofs.lemmas.Bool.{both_ways}
 use Rattle.std.proofs.lemmas.List.{map-append}
 use Rattle.infer_table.specs.Words.{Head, Hole, OpaqueId, TypeAliasId, Ty, Assignment, folded, Term, hole, leaf, pair, apply, hole_eq, term, term_folded, terms_of}
@@ -50,6 +50,32 @@ abbrev pub marks : Term → List Head
 marks (hole k) = []
 marks (leaf h) = []
 marks (pair a b) = mark_of a ∷ marks b
+
+-- how many parts these are
+abbrev pub width : Term → ℕ
+width (hole k) = 0
+width (leaf h) = 0
+width (pair a b) = suc (width b)
+
+-- they are types alone
+abbrev pub all_types : List Head → Bool
+all_types [] = true
+all_types (head.TypePart ∷ ms) = all_types ms
+all_types (_ ∷ ms) = false
+
+-- they are so many types
+abbrev pub has_types : ℕ → List Head → Bool
+has_types zero [] = true
+has_types (suc n) (head.TypePart ∷ ms) = has_types n ms
+has_types _ _ = false
+
+abbrev pub no_parts : List Head → Bool
+no_parts = has_types 0
+
+-- as many types as something takes, if there is such a thing
+abbrev pub takes_types : Option ℕ → List Head → Bool
+takes_types None ms = false
+takes_types (Some n) ms = has_types n ms
 
 abbrev pub IsHead : Shape → Term → List Head → Type 0
 IsHead ok (leaf h) ms = IsTrue (ok h ms)
@@ -103,7 +129,7 @@ pub record IsTypeOf (ok : Shape) (t : Ty) : Type 0 where
   pub bare : HasNoLabel t
 
 -- so is each that a hole is bound to
-pub record OnlyBinds (ok : Shape) (bs : List Binding) : Type 0 where
+pub record BindsTypesOf (ok : Shape) (bs : List Binding) : Type 0 where
   pub made : BindsOnly ok (log_of bs)
   pub bare : AreBare bs
 
@@ -332,16 +358,16 @@ only_over ok h (leaf g) b kept = if ok g (marks b) then pair (leaf g) kept else 
 only_over ok h (hole k) b kept = bare h
 only_over ok h (pair a c) b kept = bare h
 
-abbrev pub only : Shape → Head → TermRole → Term → Term
-only ok h whole (hole k) = hole k
-only ok h whole (leaf g) = bare h
-only ok h whole (pair a b) = only_over ok h a b (only ok h rest b)
-only ok h part (hole k) = pair (leaf head.TypePart) (bare h)
-only ok h part (leaf g) = only_mark h g
-only ok h part (pair a b) = pair (leaf (part_mark a)) (only ok h whole b)
-only ok h rest (hole k) = leaf head.End
-only ok h rest (leaf g) = leaf head.End
-only ok h rest (pair a b) = pair (only ok h part a) (only ok h rest b)
+abbrev pub only_heads : Shape → Head → TermRole → Term → Term
+only_heads ok h whole (hole k) = hole k
+only_heads ok h whole (leaf g) = bare h
+only_heads ok h whole (pair a b) = only_over ok h a b (only_heads ok h rest b)
+only_heads ok h part (hole k) = pair (leaf head.TypePart) (bare h)
+only_heads ok h part (leaf g) = only_mark h g
+only_heads ok h part (pair a b) = pair (leaf (part_mark a)) (only_heads ok h whole b)
+only_heads ok h rest (hole k) = leaf head.End
+only_heads ok h rest (leaf g) = leaf head.End
+only_heads ok h rest (pair a b) = pair (only_heads ok h part a) (only_heads ok h rest b)
 
 leaf_mark_only : (h g : Head) → mark_of (only_mark h g) ≡ leaf_mark g
 leaf_mark_only h (head.Principal id) = refl
@@ -356,12 +382,12 @@ part_mark_only (leaf head.ConstPart) = refl
 part_mark_only (leaf _) = refl
 part_mark_only (pair a b) = refl
 
-mark_only : (ok : Shape) (h : Head) (t : Term) → mark_of (only ok h part t) ≡ mark_of t
+mark_only : (ok : Shape) (h : Head) (t : Term) → mark_of (only_heads ok h part t) ≡ mark_of t
 mark_only ok h (hole k) = refl
 mark_only ok h (leaf g) = leaf_mark_only h g
 mark_only ok h (pair a b) = part_mark_only a
 
-marks_only : (ok : Shape) (h : Head) (t : Term) → marks (only ok h rest t) ≡ marks t
+marks_only : (ok : Shape) (h : Head) (t : Term) → marks (only_heads ok h rest t) ≡ marks t
 marks_only ok h (hole k) = refl
 marks_only ok h (leaf g) = refl
 marks_only ok h (pair a b) = λ i. mark_only ok h a i ∷ marks_only ok h b i
@@ -390,10 +416,10 @@ is_part_mark (leaf head.ConstPart) = tt
 is_part_mark (leaf _) = tt
 is_part_mark (pair a b) = tt
 
-pub only_is_made : (ok : Shape) (h : Head) (r : TermRole) (t : Term) → IsTrue (ok h []) → IsMadeOf ok r (only ok h r t)
+pub only_is_made : (ok : Shape) (h : Head) (r : TermRole) (t : Term) → IsTrue (ok h []) → IsMadeOf ok r (only_heads ok h r t)
 only_is_made ok h whole (hole k) i = tt
 only_is_made ok h whole (leaf g) i = (i, tt)
-only_is_made ok h whole (pair a b) i = over_is_made ok h a b (only ok h rest b) i (marks_only ok h b) (only_is_made ok h rest b i)
+only_is_made ok h whole (pair a b) i = over_is_made ok h a b (only_heads ok h rest b) i (marks_only ok h b) (only_is_made ok h rest b i)
 only_is_made ok h part (hole k) i = (tt, (i, tt))
 only_is_made ok h part (leaf g) i = mark_is_made ok h g i
 only_is_made ok h part (pair a b) i = (is_part_mark a, only_is_made ok h whole b i)
@@ -433,26 +459,26 @@ mark_apply_same s z (leaf _) i = absurd i
 mark_apply_same s z (pair a b) i = absurd i
 
 pub only_apply : (ok : Shape) (h : Head) (s : Hole → Term) (r : TermRole) (t : Term) → IsMadeOf ok r t
-    → only ok h r (apply s t) ≡ apply (λ k. only ok h whole (s k)) t
+    → only_heads ok h r (apply s t) ≡ apply (λ k. only_heads ok h whole (s k)) t
 only_apply ok h s whole (hole k) i = refl
 only_apply ok h s whole (leaf g) i = absurd i
 only_apply ok h s whole (pair a b) i =
-    let z : Hole → Term = λ k. only ok h whole (s k) in
-    over_apply ok h s a (apply s b) (only ok h rest (apply s b)) (marks b) (marks_apply ok s b i.1) i.0
+    let z : Hole → Term = λ k. only_heads ok h whole (s k) in
+    over_apply ok h s a (apply s b) (only_heads ok h rest (apply s b)) (marks b) (marks_apply ok s b i.1) i.0
     ∙ ap₂ pair (head_apply_same ok s z a (marks b) i.0) (only_apply ok h s rest b i.1)
 only_apply ok h s part (hole k) i = absurd i
 only_apply ok h s part (leaf g) i = mark_is h g i
 only_apply ok h s part (pair a b) i =
-    let z : Hole → Term = λ k. only ok h whole (s k) in
+    let z : Hole → Term = λ k. only_heads ok h whole (s k) in
     ap₂ pair (mark_apply_same s z a i.0) (only_apply ok h s whole b i.1)
 only_apply ok h s rest (hole k) i = absurd i
 only_apply ok h s rest (leaf g) i = end_is g i
 only_apply ok h s rest (pair a b) i = ap₂ pair (only_apply ok h s part a i.0) (only_apply ok h s rest b i.1)
 
 pub only_solves : (ok : Shape) (h : Head) (s : Hole → Term) (l : Log) → BindsOnly ok l → Solves s l
-    → Solves (λ k. only ok h whole (s k)) l
+    → Solves (λ k. only_heads ok h whole (s k)) l
 only_solves ok h s [] i g = tt
-only_solves ok h s (p ∷ l) i g = (ap (only ok h whole) g.0 ∙ only_apply ok h s whole p.1 i.0, only_solves ok h s l i.1 g.1)
+only_solves ok h s (p ∷ l) i g = (ap (only_heads ok h whole) g.0 ∙ only_apply ok h s whole p.1 i.0, only_solves ok h s l i.1 g.1)
 
 -- what an assignment of these heads solves has no others
 pub solved_only : (ok : Shape) (s : Hole → Term) (l : Log) → NoMark ok → AreMadeOf ok s → Solves s l → BindsOnly ok l
@@ -491,7 +517,7 @@ resolution_bare (b ∷ bs) h = record {
     single_int_var (binding.Int m t) h n = either_bare (nat_eq m n) t (ty.IntVar n) h (bare_int_var n)
     single_int_var (binding.Const m c) h n = bare_int_var n
 
-pub type_of_resolved : (ok : Shape) (state : State) (t : Ty) → OnlyBinds ok (bindings state) → IsTypeOf ok t
+pub type_of_resolved : (ok : Shape) (state : State) (t : Ty) → BindsTypesOf ok (bindings state) → IsTypeOf ok t
     → IsTypeOf ok (resolved_type state t)
 type_of_resolved ok state t h g = record {
   made = made_of_resolved_term ok state t h.made g.made;
@@ -518,25 +544,25 @@ meets_before before after a b u s m =
     solves_left s (log_of (bindings before)) (log_of more) (subst Q (map-append _ (bindings before) more) (subst P u.grown.log.1 m))
 
 most_general_of : (ok : Shape) → NoAlias ok → (before after : State) (a b : Ty) → AreUnified before after a b
-    → OnlyBinds ok (bindings before) → IsMadeOf ok whole (term a) → IsMadeOf ok whole (term b) → IsMostGeneral before after a b
+    → BindsTypesOf ok (bindings before) → IsMadeOf ok whole (term a) → IsMadeOf ok whole (term b) → IsMostGeneral before after a b
 most_general_of ok n before after a b u h i j = u.most_general
     (plain_of ok n (resolved_term before a) (made_of_resolved_term ok before a h.made i))
     (plain_of ok n (resolved_term before b) (made_of_resolved_term ok before b h.made j))
 
 -- each assignment that meets the state after makes the two equal
-pub unified_makes_same : (ok : Shape) (before after : State) (a b : Ty) → NoAlias ok → OnlyBinds ok (bindings before)
+pub unified_makes_same : (ok : Shape) (before after : State) (a b : Ty) → NoAlias ok → BindsTypesOf ok (bindings before)
     → IsMadeOf ok whole (term a) → IsMadeOf ok whole (term b) → AreUnified before after a b → (s : Hole → Term) → Meets s after
     → apply s (term a) ≡ apply s (term b)
 unified_makes_same ok before after a b n h i j u s m = (most_general_of ok n before after a b u h i j).unifies s m
 
 -- holes are bound to heads of the two types and of earlier bindings alone, and to no label
 pub binds_only_unified : (ok : Shape) → NoAlias ok → (h : Head) → IsTrue (ok h []) → (before after : State) (a b : Ty)
-    → AreUnified before after a b → (s : Hole → Term) → Meets s after → OnlyBinds ok (bindings before)
-    → IsMadeOf ok whole (term a) → IsMadeOf ok whole (term b) → OnlyBinds ok (bindings after)
+    → AreUnified before after a b → (s : Hole → Term) → Meets s after → BindsTypesOf ok (bindings before)
+    → IsMadeOf ok whole (term a) → IsMadeOf ok whole (term b) → BindsTypesOf ok (bindings after)
 binds_only_unified ok n h e before after a b u s m i j k =
     let most = most_general_of ok n before after a b u i j k in
-    let z : Hole → Term = λ x. only ok h whole (s x) in
-    let same = sym (only_apply ok h s whole (term a) j) ∙ ap (only ok h whole) (most.unifies s m) ∙ only_apply ok h s whole (term b) k in
+    let z : Hole → Term = λ x. only_heads ok h whole (s x) in
+    let same = sym (only_apply ok h s whole (term a) j) ∙ ap (only_heads ok h whole) (most.unifies s m) ∙ only_apply ok h s whole (term b) k in
     let solved = most.general z (only_solves ok h s (log_of (bindings before)) i.made (meets_before before after a b u s m)) same in
     record {
       made = solved_only ok z (log_of (bindings after)) n.no_mark (λ x. only_is_made ok h whole (s x) e) solved;
@@ -544,7 +570,7 @@ binds_only_unified ok n h e before after a b u s m i j k =
     }
 
 -- no assignment that meets the state makes two types equal that were refused
-pub refused_apart : (ok : Shape) (before : State) (a b : Ty) → NoAlias ok → OnlyBinds ok (bindings before)
+pub refused_apart : (ok : Shape) (before : State) (a b : Ty) → NoAlias ok → BindsTypesOf ok (bindings before)
     → IsMadeOf ok whole (term a) → IsMadeOf ok whole (term b) → (CanBeEqual before a b → ⊥) → (s : Hole → Term) → Respects s
     → Meets s before → apply s (term a) ≡ apply s (term b) → ⊥
 refused_apart ok before a b n h i j apart s r m e =

@@ -1,6 +1,6 @@
 -- An element of a tuple, at its component.
 use Rattle.std.proofs.Common.{Bool, ◌≡◌, ◌∙◌, Option, Some, inr, refl, None, arith, subst, sym}
-use Rattle.infer_tuples.specs.Words.{ExprId, Ty, Ty-F, out-Ty, AliasBound, GenericArg, TraitRef, folded, Schedule, Scope, AllOf, BindsOnly, Grew, State, bindings, hole_count, resolved_type, with_new_hole, stays_with, Given, InferenceContext, Closes, IsSound, found_under, expected_under, known_hole, known_or, known_step, with_table, IsFine, IsFineExpectation, is_fine_head, Found, CoerceDone, Before, Debt, Owed, Walks, IsCoerced}
+use Rattle.infer_tuples.specs.Words.{ExprId, Ty, Ty-F, out-Ty, AliasBound, GenericArg, TraitRef, folded, Schedule, Scope, AllOf, BindsTypesOf, Grew, State, bindings, hole_count, resolved_type, with_new_hole, stays_with, Given, InferenceContext, Closes, IsSound, found_under, expected_under, known_hole, known_or, known_step, with_table, IsFine, IsFineExpectation, is_fine_head, Found, CoerceDone, Before, Debt, Owed, Walks, IsCoerced}
 use Rattle.hir_types.specs.declared.head.HoleKind.TheVariants as kind
 use Rattle.hir_types.specs.declared.ty.Ty.TheVariants as ty
 use Rattle.infer_tuples.proofs.Words.{grew_by_hole, told_same, follows_twice, closes_before, walks_paid, closes_earlier, fine_grown, fine_hole, fine_closed, placed_at, placed_owed, coerced_walks, coerced_placed, coerced_clock, holed_sound, resolved_fine}
@@ -15,7 +15,7 @@ known_step_fine sc state t x known fine = fine
 
 -- as far as it is known it is fine
 pub known_fine : (sc : Scope) (state : State) (x known : Option Ty) → AllOf state.substitution.kinds (bindings state)
-    → BindsOnly (is_fine_head sc) (log_of (bindings state)) → known ≡ known_hole state x → IsFineExpectation sc state x
+    → BindsTypesOf (is_fine_head sc) (bindings state) → known ≡ known_hole state x → IsFineExpectation sc state x
     → IsFineExpectation sc state (known_or known x)
 known_fine sc state None known made bound is fine = subst (λ k. IsFineExpectation sc state (known_or k None)) (sym is) tt
 known_fine sc state (Some t) known made bound is fine =
