@@ -126,5 +126,9 @@ abbrev pub has_associated : RawFacts → DefWithBodyId → Bool
 has_associated raw (def.FunctionId f) = has_associated_by raw (slice_get raw.fns f.0)
 has_associated raw _ = false
 
+-- Whether types of later kinds may be types in the body of a definition. None comes into a body yet.
+abbrev pub has_later : RawFacts → DefWithBodyId → Bool
+has_later raw d = false
+
 abbrev pub scope_of : RawFacts → DefWithBodyId → Scope
-scope_of raw d = record { facts = raw; params = params_of raw d; associated = has_associated raw d; later = false }
+scope_of raw d = record { facts = raw; params = params_of raw d; associated = has_associated raw d; later = has_later raw d }

@@ -349,7 +349,7 @@ module _ (g : Given) (s : Schedule) (law : IsLawful g.scope.facts) (w : TypeRefI
 
   fine : IsFine g.scope new.goals.table t
   fine = subst (λ u. IsFine g.scope new.goals.table u) (sym d.is)
-      (let_fine g.scope.facts law g.scope.params g.scope.associated new.goals.table (hole_type new.result) w (h.ready.written.lets h.block h.at_stmt h.pattern w h.init h.other h.is_let) (λ k stands.
+      (let_fine g.scope.facts law g.scope.params g.scope.associated g.scope.later new.goals.table (hole_type new.result) w (h.ready.written.lets h.block h.at_stmt h.pattern w h.init h.other h.is_let) (λ k stands.
       (let q = d.recorded k stands in subst (λ u. IsFine g.scope new.goals.table u) (sym (hole_at new.result k q.0 q.1)) (d.adds.sound.fine.placeholders k q.0 q.1))))
 
   module _ (a : Assignment) (k : Closes a new) where

@@ -1,13 +1,16 @@
 -- Types that the walk may have in hand: kind by kind, their parts, and as the table grows.
-use Rattle.std.specs.Prelude.{nat_lt, ◌&&◌}
-use Rattle.std.proofs.Common.{List, [], ◌∷◌, ℕ, zero, suc, ◌≡◌, subst, Some, slice_get, sym, true≢false, length, refl, ap, ◌∙◌, true, ◌++◌, Option, None}
-use Rattle.infer_ctx.specs.Words.{Ty, Ty-F, out-Ty, roll-Ty, roll-out-Ty, Head, Term, node, term, chain, leaf, type_part, parts_of_types, term_bool, term_char, term_int, term_uint, term_tuple, term_param, term_var, term_int_var, term_adt_types, term_fn_def_types, term_associated_types, AdtId, CallableDefId, AliasBound, GenericArg, IntegerTy, TraitRef, integer_type, unit, Scope, adt_params, has_params, alias_params, type_args, State, HolesAreOf, Grew, hole_count, with_new_hole, AreOf, width, whole, rest, IsMadeOf, NoAlias, are_of_hole, are_of_parts, WaitingPair, InferenceResult, TypeMismatch, AllTypes, AllSeen, TypeAliasId}
+use Rattle.std.specs.Prelude.{nat_lt, ◌&&◌, Bool, drop, map}
+use Rattle.std.specs.Cmp.{first_so, second_so}
+use Rattle.std.proofs.Common.{List, [], ◌∷◌, ℕ, zero, suc, ◌≡◌, subst, Some, slice_get, sym, true≢false, eqb-true, eq-eqb, length, refl, ap, ◌∙◌, true, ◌++◌, Option, None}
+use Rattle.infer_ctx.specs.Words.{Ty, Ty-F, out-Ty, roll-Ty, roll-out-Ty, Head, Term, node, term, chain, leaf, type_part, parts_of_types, term_bool, term_char, term_int, term_uint, term_tuple, term_param, term_var, term_int_var, term_adt_types, term_fn_def_types, term_associated_types, AdtId, CallableDefId, AliasBound, GenericArg, IntegerTy, TraitRef, integer_type, unit, Scope, adt_params, has_params, alias_params, type_args, State, HolesAreOf, Grew, hole_count, with_new_hole, AreOf, all_types, has_types, takes_types, marks, IsMark, HasNoLabel, bare_var, bare_int_var, whole, rest, IsMadeOf, NoAlias, are_of_hole, are_of_parts, WaitingPair, InferenceResult, TypeMismatch, AllTypes, AllSeen, TypeAliasId}
 use Rattle.hir_types.specs.declared.head.Head.TheVariants as head
 use Rattle.hir_types.specs.declared.head.Hole.TheVariants as hole_of
 use Rattle.hir_types.specs.declared.head.HoleKind.TheVariants as kind
 use Rattle.hir_types.specs.declared.ty.IntegerTy.TheVariants as integer
 use Rattle.hir_types.specs.declared.ty.Ty.TheVariants as ty
+use Rattle.hir_types.specs.Own.{erased}
 use Rattle.infer_ctx.proofs.Words.{get_last}
+use Rattle.infer_ctx.proofs.Bare.{bare_bool, bare_char, bare_integer, bare_param, bare_tuple, bare_adt, bare_fn_def, bare_associated, elements_bare, fn_args_bare}
 use Rattle.infer_ctx.specs.Own.{IsFine, Every, AllFine, item_params, is_fine_head, HasFineHeads, IsFineExpectation, AreFinePairs, IsFineAsked, component, element_type}
 use Rattle.infer_ctx.proofs.MadeHoles.{AllHolesAreOf, holes_are_of_grown, node_holes_are_of}
 
@@ -32,9 +35,30 @@ all_holes state (t ∷ ts) h = (h.0, all_holes state ts h.1)
 pub no_holes : (state : State) (t : Ty) (h : Head) → term t ≡ node h [] → HolesAreOf state t
 no_holes state t h e = (let P : Term → Type 0 = AreOf state.substitution.kinds in subst P (sym e) (λ k g. absurd (true≢false (sym g))))
 
-pub parts_width : (ts : List Ty) → width (chain (parts_of_types ts)) ≡ length ts
-parts_width [] = refl
-parts_width (t ∷ ts) = ap suc (parts_width ts)
+-- ---- the marks of types
+
+types_alone : (ts : List Ty) → all_types (marks (chain (parts_of_types ts))) ≡ true
+types_alone [] = refl
+types_alone (t ∷ ts) = types_alone ts
+
+types_counted : (ts : List Ty) → has_types (length ts) (marks (chain (parts_of_types ts))) ≡ true
+types_counted [] = refl
+types_counted (t ∷ ts) = types_counted ts
+
+pub types_taken : (o : Option ℕ) (ts : List Ty) → has_params o (length ts) ≡ true → takes_types o (marks (chain (parts_of_types ts))) ≡ true
+types_taken None ts h = absurd (true≢false (sym h))
+types_taken (Some n) ts h = subst (λ (m : ℕ). has_types m (marks (chain (parts_of_types ts))) ≡ true) (sym (eqb-true n (length ts) h)) (types_counted ts)
+
+-- so many types are taken where these are, and only there
+counted_types : (n : ℕ) (ts : List Ty) → has_types n (marks (chain (parts_of_types ts))) ≡ true → n ≡ length ts
+counted_types zero [] h = refl
+counted_types (suc n) [] h = absurd (true≢false (sym h))
+counted_types zero (t ∷ ts) h = absurd (true≢false (sym h))
+counted_types (suc n) (t ∷ ts) h = ap suc (counted_types n ts h)
+
+pub taken_types : (o : Option ℕ) (ts : List Ty) → takes_types o (marks (chain (parts_of_types ts))) ≡ true → has_params o (length ts) ≡ true
+taken_types None ts h = absurd (true≢false (sym h))
+taken_types (Some n) ts h = eq-eqb n (length ts) (counted_types n ts h)
 
 module _ (sc : Scope) where
   abbrev Made : Term → Type 0
@@ -42,37 +66,47 @@ module _ (sc : Scope) where
 
   -- ---- heads, kind by kind
 
-  heads_by : (t : Ty) (u : Term) → term t ≡ u → Made u → HasFineHeads sc t
-  heads_by t u e h = subst Made (sym e) h
+  heads_by : (t : Ty) (u : Term) → term t ≡ u → Made u → HasNoLabel t → HasFineHeads sc t
+  heads_by t u e h none = record { made = subst Made (sym e) h; bare = none }
 
   pub heads_bool : HasFineHeads sc ty.Bool
-  heads_bool = heads_by ty.Bool (node head.Bool []) term_bool (refl, tt)
+  heads_bool = heads_by ty.Bool (node head.Bool []) term_bool (refl, tt) bare_bool
 
   pub heads_char : HasFineHeads sc ty.Char
-  heads_char = heads_by ty.Char (node head.Char []) term_char (refl, tt)
+  heads_char = heads_by ty.Char (node head.Char []) term_char (refl, tt) bare_char
 
   pub heads_integer : (i : IntegerTy) → HasFineHeads sc (integer_type i)
-  heads_integer (integer.Int i) = heads_by (ty.Int i) (node (head.Int i) []) (term_int i) (refl, tt)
-  heads_integer (integer.Uint i) = heads_by (ty.Uint i) (node (head.Uint i) []) (term_uint i) (refl, tt)
+  heads_integer (integer.Int i) = heads_by (ty.Int i) (node (head.Int i) []) (term_int i) (refl, tt) (bare_integer (integer.Int i))
+  heads_integer (integer.Uint i) = heads_by (ty.Uint i) (node (head.Uint i) []) (term_uint i) (refl, tt) (bare_integer (integer.Uint i))
 
   pub heads_param : (n : ℕ) → nat_lt n sc.params ≡ true → HasFineHeads sc (ty.Param n)
-  heads_param n h = heads_by (ty.Param n) (node (head.Param n) []) (term_param n) (h, tt)
+  heads_param n h = heads_by (ty.Param n) (node (head.Param n) []) (term_param n) (h, tt) (bare_param n)
 
   parts_heads : (ts : List Ty) → Every (HasFineHeads sc) ts → IsMadeOf (is_fine_head sc) rest (chain (parts_of_types ts))
   parts_heads [] h = tt
-  parts_heads (t ∷ ts) h = ((tt, h.0), parts_heads ts h.1)
+  parts_heads (t ∷ ts) h = ((tt, h.0.made), parts_heads ts h.1)
+
+  every_bare : (ts : List Ty) → Every (HasFineHeads sc) ts → map erased ts ≡ ts
+  every_bare [] h = refl
+  every_bare (t ∷ ts) h = λ i. h.0.bare i ∷ every_bare ts h.1 i
 
   pub heads_tuple : (ts : List Ty) → Every (HasFineHeads sc) ts → HasFineHeads sc (ty.Tuple ts)
-  heads_tuple ts h = heads_by (ty.Tuple ts) (node head.Tuple (parts_of_types ts)) (term_tuple ts) (refl, parts_heads ts h)
+  heads_tuple ts h = heads_by (ty.Tuple ts) (node head.Tuple (parts_of_types ts)) (term_tuple ts) (types_alone ts, parts_heads ts h) (bare_tuple ts (every_bare ts h))
 
   pub heads_adt : (id : AdtId) (ts : List Ty) → has_params (adt_params sc.facts id) (length ts) ≡ true → Every (HasFineHeads sc) ts → HasFineHeads sc (ty.Adt id (type_args ts))
-  heads_adt id ts e h = heads_by (ty.Adt id (type_args ts)) (node (head.Adt id) (parts_of_types ts)) (term_adt_types id ts) (ap (has_params (adt_params sc.facts id)) (parts_width ts) ∙ e, parts_heads ts h)
+  heads_adt id ts e h = heads_by (ty.Adt id (type_args ts)) (node (head.Adt id) (parts_of_types ts)) (term_adt_types id ts) (types_taken (adt_params sc.facts id) ts e, parts_heads ts h) (bare_adt id ts (every_bare ts h))
 
   pub heads_fn_def : (id : CallableDefId) (ts : List Ty) → has_params (item_params sc.facts id) (length ts) ≡ true → Every (HasFineHeads sc) ts → HasFineHeads sc (ty.FnDef id (type_args ts))
-  heads_fn_def id ts e h = heads_by (ty.FnDef id (type_args ts)) (node (head.FnDef id) (parts_of_types ts)) (term_fn_def_types id ts) (ap (has_params (item_params sc.facts id)) (parts_width ts) ∙ e, parts_heads ts h)
+  heads_fn_def id ts e h = heads_by (ty.FnDef id (type_args ts)) (node (head.FnDef id) (parts_of_types ts)) (term_fn_def_types id ts) (types_taken (item_params sc.facts id) ts e, parts_heads ts h) (bare_fn_def id ts (every_bare ts h))
+
+  associated_taken : (id : TypeAliasId) (ts : List Ty) → (sc.associated && has_params (alias_params sc.facts id) (length ts)) ≡ true → (sc.associated && takes_types (alias_params sc.facts id) (marks (chain (parts_of_types ts)))) ≡ true
+  associated_taken id ts e =
+      let count = has_params (alias_params sc.facts id) (length ts) in
+      ap (λ (b : Bool). b && takes_types (alias_params sc.facts id) (marks (chain (parts_of_types ts)))) (first_so sc.associated count e)
+      ∙ types_taken (alias_params sc.facts id) ts (second_so sc.associated count e)
 
   pub heads_associated : (id : TypeAliasId) (ts : List Ty) → (sc.associated && has_params (alias_params sc.facts id) (length ts)) ≡ true → Every (HasFineHeads sc) ts → HasFineHeads sc (ty.AssociatedType id (type_args ts))
-  heads_associated id ts e h = heads_by (ty.AssociatedType id (type_args ts)) (node (head.AssociatedType id) (parts_of_types ts)) (term_associated_types id ts) (ap (λ n. sc.associated && has_params (alias_params sc.facts id) n) (parts_width ts) ∙ e, parts_heads ts h)
+  heads_associated id ts e h = heads_by (ty.AssociatedType id (type_args ts)) (node (head.AssociatedType id) (parts_of_types ts)) (term_associated_types id ts) (associated_taken id ts e, parts_heads ts h) (bare_associated id ts (every_bare ts h))
 
   -- ---- fine types, kind by kind
 
@@ -124,39 +158,45 @@ module _ (sc : Scope) where
   fine_hole state = record {
     holes = (let P : Term → Type 0 = AreOf (state.substitution.kinds ++ kind.Ty ∷ []) in
         subst P (sym (term_var (hole_count state))) (are_of_hole (state.substitution.kinds ++ kind.Ty ∷ []) (hole_of.Ty (hole_count state)) (get_last state.substitution.kinds kind.Ty)));
-    heads = subst Made (sym (term_var (hole_count state))) tt;
+    heads = record { made = subst Made (sym (term_var (hole_count state))) tt; bare = bare_var (hole_count state) };
   }
 
   pub fine_int_hole : (state : State) → IsFine sc (with_new_hole state kind.Int) (ty.IntVar (hole_count state))
   fine_int_hole state = record {
     holes = (let P : Term → Type 0 = AreOf (state.substitution.kinds ++ kind.Int ∷ []) in
         subst P (sym (term_int_var (hole_count state))) (are_of_hole (state.substitution.kinds ++ kind.Int ∷ []) (hole_of.Int (hole_count state)) (get_last state.substitution.kinds kind.Int)));
-    heads = subst Made (sym (term_int_var (hole_count state))) tt;
+    heads = record { made = subst Made (sym (term_int_var (hole_count state))) tt; bare = bare_int_var (hole_count state) };
   }
 
   -- ---- parts of fine types
 
-  fine_parts : (state : State) (ts : List Ty) → AreOf state.substitution.kinds (chain (parts_of_types ts)) → IsMadeOf (is_fine_head sc) rest (chain (parts_of_types ts)) → AllFine sc state ts
-  fine_parts state [] h k = tt
-  fine_parts state (t ∷ ts) h k =
+  fine_parts : (state : State) (ts : List Ty) → AreOf state.substitution.kinds (chain (parts_of_types ts)) → IsMadeOf (is_fine_head sc) rest (chain (parts_of_types ts)) → map erased ts ≡ ts → AllFine sc state ts
+  fine_parts state [] h k none = tt
+  fine_parts state (t ∷ ts) h k none =
       let kinds = state.substitution.kinds in
-      let parts = are_of_parts kinds (type_part (term t)) (chain (parts_of_types ts)) h in (
-        record { holes = (are_of_parts kinds (leaf head.TypePart) (term t) parts.0).1; heads = k.0.1 },
-        fine_parts state ts parts.1 k.1,
+      let parts = are_of_parts kinds (type_part (term t)) (chain (parts_of_types ts)) h in
+      let first : erased t ≡ t = ap (λ (us : List Ty). first_or t us) none in
+      let others : map erased ts ≡ ts = ap (λ (us : List Ty). drop 1 us) none in (
+        record { holes = (are_of_parts kinds (leaf head.TypePart) (term t) parts.0).1; heads = record { made = k.0.1; bare = first } },
+        fine_parts state ts parts.1 k.1 others,
       )
+    where
+      first_or : Ty → List Ty → Ty
+      first_or u [] = u
+      first_or u (v ∷ vs) = v
 
   -- what a head stands over is fine
-  fine_over : (state : State) (t : Ty) (h : Head) (ts : List Ty) → term t ≡ node h (parts_of_types ts) → IsFine sc state t → AllFine sc state ts
-  fine_over state t h ts is k =
+  fine_over : (state : State) (t : Ty) (h : Head) (ts : List Ty) → term t ≡ node h (parts_of_types ts) → map erased ts ≡ ts → IsFine sc state t → AllFine sc state ts
+  fine_over state t h ts is none k =
       let kinds = state.substitution.kinds in
       let P : Term → Type 0 = AreOf kinds in
-      fine_parts state ts (are_of_parts kinds (leaf h) (chain (parts_of_types ts)) (subst P is k.holes)).1 (subst Made is k.heads).1
+      fine_parts state ts (are_of_parts kinds (leaf h) (chain (parts_of_types ts)) (subst P is k.holes)).1 (subst Made is k.heads.made).1 none
 
   pub fine_elements : (state : State) (ts : List Ty) → IsFine sc state (ty.Tuple ts) → AllFine sc state ts
-  fine_elements state ts h = fine_over state (ty.Tuple ts) head.Tuple ts (term_tuple ts) h
+  fine_elements state ts h = fine_over state (ty.Tuple ts) head.Tuple ts (term_tuple ts) (elements_bare ts h.heads.bare) h
 
   pub fine_fn_args : (state : State) (id : CallableDefId) (ts : List Ty) → IsFine sc state (ty.FnDef id (type_args ts)) → AllFine sc state ts
-  fine_fn_args state id ts h = fine_over state (ty.FnDef id (type_args ts)) (head.FnDef id) ts (term_fn_def_types id ts) h
+  fine_fn_args state id ts h = fine_over state (ty.FnDef id (type_args ts)) (head.FnDef id) ts (term_fn_def_types id ts) (fn_args_bare id ts h.heads.bare) h
 
   pub fine_part : (state : State) (ts : List Ty) (i : ℕ) (t : Ty) → IsFine sc state (ty.Tuple ts) → slice_get ts i ≡ Some t → IsFine sc state t
   fine_part state ts i t h e = every_at (IsFine sc state) ts i t (fine_elements state ts h) e
@@ -215,5 +255,18 @@ module _ (sc : Scope) where
   fine_asked_grown s t xs g h = λ n m i. (let q = h n m i in (fine_grown s t m.expected g q.0, fine_grown s t m.actual g q.1))
 
 -- ---- neither alias nor `{unknown}`
+fine_no_mark : (sc : Scope) (h : Head) (ms : List Head) → IsMark h → is_fine_head sc h ms ≡ false
+fine_no_mark sc (head.Principal id) ms h = refl
+fine_no_mark sc head.NoPrincipal ms h = refl
+fine_no_mark sc (head.Bound id) ms h = refl
+fine_no_mark sc (head.AutoTrait id) ms h = refl
+fine_no_mark sc _ ms h = absurd h
+
 pub fine_no_alias : (sc : Scope) → NoAlias (is_fine_head sc)
-fine_no_alias sc = record { projection = λ id n. refl; opaque = λ id n. refl; error = λ n. refl; unknown_const = λ n. refl; no_mark = λ n. refl }
+fine_no_alias sc = record {
+  projection = λ id ms. refl;
+  opaque = λ id ms. refl;
+  error = λ ms. refl;
+  unknown_const = λ ms. refl;
+  no_mark = record { type_part = λ ms. refl; const_part = λ ms. refl; others = fine_no_mark sc };
+}

@@ -1,14 +1,14 @@
 -- The functions and constructors of lawful facts.
-use Rattle.std.specs.List.{list_all}
-use Rattle.std.proofs.Common.{ℕ, ◌≡◌, refl, sym, ap, ◌∙◌, Some, slice_get, option_and_then, None, Option, length, option_map, zero, suc, ◌&&◌, ◌+◌, ◌<◌, ◌≤◌, arith, true, List, subst, [], ◌∷◌, map}
+use Rattle.std.proofs.Common.{ℕ, ◌≡◌, refl, sym, ap, ◌∙◌, Some, slice_get, option_and_then, None, Option, length, option_map, zero, suc, ◌+◌, ◌<◌, ◌≤◌, arith, true, List, subst, [], ◌∷◌, map}
 use Rattle.std.proofs.lemmas.Bool.{lt-ltb, eq-eqb}
-use Rattle.infer_ctx.specs.Words.{VariantId, FunctionId, CallableDefId, AdtId, Ty, TypeRefId, RawCtor, RawFacts, RawVariant, adt_params, fn_arity, variant_arity, callable_params, Scope, has_params, types_scope, Signature, signature_of, ctor_signature, signature_by, taken_types, variant_types, own_adt, fn_signature, fn_types, params_from, type_args, RawFn, RawType, is_carried_type, is_carried_arg, AreCarriedArgs, carried_bool, carried_char, carried_integer, carried_tuple, carried_param, carried_type_arg, carried_adt, written_type, RawAdt, RawField, IsModuleFn, IsLawful}
+use Rattle.infer_ctx.specs.Words.{VariantId, FunctionId, CallableDefId, AdtId, Ty, TypeRefId, RawCtor, RawFacts, RawVariant, adt_params, fn_arity, variant_arity, callable_params, Scope, has_params, types_scope, Signature, signature_of, ctor_signature, signature_by, taken_types, variant_types, own_adt, fn_signature, fn_types, params_from, type_args, RawFn, RawType, AreCarriedTypes, AreCarriedArgs, carried_bool, carried_char, carried_integer, carried_tuple, carried_param, carried_type_arg, carried_adt, written_type, RawAdt, RawField, IsModuleFn, IsLawful}
 use Rattle.hir_types.specs.declared.ids.CallableDefId.TheVariants as callable
 use Rattle.hir_types.specs.declared.ty.Ty.TheVariants as ty
 use Rattle.infer_ctx.proofs.Words.{variant_adt, variant_ctor, unit_aliases, Each, IsOver, over_input, over_output, over_field}
 use Rattle.infer_ctx.specs.Words.hir_raw.declared.raw.RawCtor.TheVariants as ctor
 use Rattle.infer_ctx.specs.Own.{HasFineHeads, IsCarriedIn, Every, IsItem, IsVariant}
 use Rattle.infer_ctx.proofs.FineTypes.{heads_bool, heads_char, heads_integer, heads_tuple, heads_param, heads_adt}
+use Rattle.infer_ctx.proofs.OverTypes.{carried_args}
 
 -- a constructor has a signature where it takes fields
 pub tuple_signature : (raw : RawFacts) (v : VariantId) (x : RawVariant) (n : ℕ) → slice_get raw.variants v.0 ≡ Some x → adt_params raw x.adt ≡ Some n → x.ctor ≡ ctor.Tuple → (σ : Signature) × (signature_of raw (callable.VariantId v) ≡ Some σ) × (σ.params ≡ variant_arity raw.types x n)
@@ -64,8 +64,8 @@ params_length i zero = refl
 params_length i (suc n) = ap suc (params_length (suc i) n)
 
 params_carried : (i n : ℕ) → AreCarriedArgs (type_args (params_from i n))
-params_carried i zero = refl
-params_carried i (suc n) = ap (λ b. b && list_all is_carried_arg (type_args (params_from (suc i) n))) (carried_type_arg (ty.Param i) ∙ carried_param i) ∙ params_carried (suc i) n
+params_carried i zero = tt
+params_carried i (suc n) = (carried_type_arg (ty.Param i) (carried_param i), params_carried (suc i) n)
 
 params_heads : (sc : Scope) (i n : ℕ) → i + n ≤ sc.params → Every (HasFineHeads sc) (params_from i n)
 params_heads sc i zero h = tt
@@ -79,7 +79,7 @@ own_adt_known raw a n m le count =
     let us : List Ty = params_from 0 n in
     let takes : has_params (adt_params raw a) (length us) ≡ true = ap (λ o. has_params o (length us)) count ∙ eq-eqb n (length us) (sym (params_length 0 n)) in
     record {
-      carried = carried_adt a (type_args us) ∙ params_carried 0 n;
+      carried = carried_adt a (type_args us) (params_carried 0 n);
       heads = heads_adt (types_scope raw m) a us takes (params_heads (types_scope raw m) 0 n (omega (arith, le)));
     }
 
@@ -102,13 +102,9 @@ module _ (raw : RawFacts) (n : ℕ) where
   abbrev sc : Scope
   sc = types_scope raw n
 
-  every_carried : (ts : List Ty) → Each (IsCarriedIn sc) ts → list_all is_carried_type ts ≡ true
-  every_carried [] each = refl
-  every_carried (t ∷ ts) each = ap (λ b. b && list_all is_carried_type ts) each.0.carried ∙ every_carried ts each.1
-
-  args_carried : (ts : List Ty) → Each (IsCarriedIn sc) ts → AreCarriedArgs (type_args ts)
-  args_carried [] each = refl
-  args_carried (t ∷ ts) each = ap (λ b. b && list_all is_carried_arg (type_args ts)) (carried_type_arg t ∙ each.0.carried) ∙ args_carried ts each.1
+  every_carried : (ts : List Ty) → Each (IsCarriedIn sc) ts → AreCarriedTypes ts
+  every_carried [] each = tt
+  every_carried (t ∷ ts) each = (each.0.carried, every_carried ts each.1)
 
   every_head : (ts : List Ty) → Each (IsCarriedIn sc) ts → Every (HasFineHeads sc) ts
   every_head [] each = tt
@@ -119,8 +115,8 @@ module _ (raw : RawFacts) (n : ℕ) where
     bool = record { carried = carried_bool; heads = heads_bool sc };
     char = record { carried = carried_char; heads = heads_char sc };
     integer = λ i. record { carried = carried_integer i; heads = heads_integer sc i };
-    tuple = λ ts each. record { carried = carried_tuple ts ∙ every_carried ts each; heads = heads_tuple sc ts (every_head ts each) };
-    adt = λ a ts count each. record { carried = carried_adt a (type_args ts) ∙ args_carried ts each; heads = heads_adt sc a ts count (every_head ts each) };
+    tuple = λ ts each. record { carried = carried_tuple ts (every_carried ts each); heads = heads_tuple sc ts (every_head ts each) };
+    adt = λ a ts count each. record { carried = carried_adt a (type_args ts) (carried_args ts (every_carried ts each)); heads = heads_adt sc a ts count (every_head ts each) };
     param = λ k within. record { carried = carried_param k; heads = heads_param sc k (lt-ltb k n within) };
   }
 

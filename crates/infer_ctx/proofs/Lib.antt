@@ -1,4 +1,6 @@
 pub mod Asked
+pub mod Bare
+pub mod Placed
 pub mod AtEach
 pub mod Carried
 pub mod Category

@@ -1,6 +1,6 @@
 -- Types of the carried kinds.
-use Rattle.std.proofs.Common.{refl, sym, ◌∙◌, List, [], subst, Some, None}
-use Rattle.infer_ctx.specs.Words.{Ty, unit, IsCarriedType, carried_bare, AreCarriedTypes, carried_tuple, carried_bool, carried_char, carried_integer, RawLiteral, InferenceResult, AllTypes, IsClosedTable, IsLiteralType}
+use Rattle.std.proofs.Common.{sym, List, [], subst, Some, None}
+use Rattle.infer_ctx.specs.Words.{Ty, unit, IsCarriedType, AreCarriedTypes, carried_tuple, carried_bool, carried_char, carried_integer, RawLiteral, InferenceResult, AllTypes, IsClosedTable, IsLiteralType}
 use Rattle.hir_types.specs.declared.ty.Ty.TheVariants as ty
 use Rattle.infer_ctx.specs.Words.hir_raw.declared.raw.RawLiteral.TheVariants as literal
 use Rattle.infer_ctx.specs.Own.{IsCarriedTable}
@@ -23,15 +23,15 @@ every P Q t f h = record {
 }
 
 pub table_closed : (t : InferenceResult) → IsCarriedTable t → IsClosedTable t
-table_closed t h = every IsCarriedType _ t (λ s k. (carried_bare s k).closed) h
+table_closed t h = every IsCarriedType _ t (λ s k. k.closed) h
 
 -- ---- lists
 
 pub carried_tuple_of : (ts : List Ty) → AreCarriedTypes ts → IsCarriedType (ty.Tuple ts)
-carried_tuple_of ts h = carried_tuple ts ∙ h
+carried_tuple_of ts h = carried_tuple ts h
 
 pub carried_unit : IsCarriedType unit
-carried_unit = carried_tuple_of [] refl
+carried_unit = carried_tuple_of [] tt
 
 -- ---- literals
 pub carried_literal : (l : RawLiteral) (t : Ty) → IsLiteralType l t → IsCarriedType t

@@ -10,14 +10,14 @@ use Rattle.infer_ctx.specs.Own.{HasFineHeads, IsFine, IsWritten, AllFine}
 use Rattle.infer_ctx.proofs.FineTypes.{heads_param, fine_bool, fine_char, fine_integer, fine_tuple, fine_adt}
 use Rattle.infer_ctx.proofs.OverTypes.{carried_fine}
 
--- what is written in such a scope, whether associated types that stay may be types in it or not
-abbrev scope_under : RawFacts → ℕ → Bool → Scope
-scope_under raw count associated = record { facts = raw; params = count; associated = associated }
+-- what is written in such a scope, whether associated types that stay, and types of later kinds, may be types in it or not
+abbrev scope_under : RawFacts → ℕ → Bool → Bool → Scope
+scope_under raw count associated later = record { facts = raw; params = count; associated = associated; later = later }
 
 -- types of a list of which each fits layer by layer
-module _ (raw : RawFacts) (count : ℕ) (associated : Bool) (types : List RawType) (Fits : ℕ → Type 0) (fit : AllFit raw count types Fits) (state : State) (h : ℕ → Ty) where
+module _ (raw : RawFacts) (count : ℕ) (associated later : Bool) (types : List RawType) (Fits : ℕ → Type 0) (fit : AllFit raw count types Fits) (state : State) (h : ℕ → Ty) where
   abbrev Here : Scope
-  Here = scope_under raw count associated
+  Here = scope_under raw count associated later
 
   abbrev Good : Ty → Type 0
   Good t = IsFine Here state t
@@ -59,19 +59,19 @@ module _ (raw : RawFacts) (count : ℕ) (associated : Bool) (types : List RawTyp
   filled_fine w fits good = filled_within_fine (suc w.0) w.0 (omega arith) fits good
 
 -- the type of a `let` is where what stands for each `_` and each associated type in it is
-pub let_fine : (raw : RawFacts) → IsLawful raw → (count : ℕ) (associated : Bool) (state : State) (h : ℕ → Ty) (w : TypeRefId) → FitsThere raw count w.0
-    → ((k : ℕ) → StandsIn (masked raw.types) k w.0 → IsFine (scope_under raw count associated) state (h k)) → IsFine (scope_under raw count associated) state (filled_type h (masked raw.types) w)
-let_fine raw law count associated state h w = filled_fine raw count associated (masked raw.types) (FitsThere raw count) (masked_fit raw law count) state h w
+pub let_fine : (raw : RawFacts) → IsLawful raw → (count : ℕ) (associated later : Bool) (state : State) (h : ℕ → Ty) (w : TypeRefId) → FitsThere raw count w.0
+    → ((k : ℕ) → StandsIn (masked raw.types) k w.0 → IsFine (scope_under raw count associated later) state (h k)) → IsFine (scope_under raw count associated later) state (filled_type h (masked raw.types) w)
+let_fine raw law count associated later state h w = filled_fine raw count associated later (masked raw.types) (FitsThere raw count) (masked_fit raw law count) state h w
 
 -- a type without `_`, in which no projection stands
-module _ (raw : RawFacts) (law : IsLawful raw) (count : ℕ) (associated : Bool) where
+module _ (raw : RawFacts) (law : IsLawful raw) (count : ℕ) (associated later : Bool) where
   abbrev There : Scope
-  There = scope_under raw count associated
+  There = scope_under raw count associated later
 
   pub written_heads : (w : TypeRefId) → FitsUnder raw count w.0 → HasNoHole raw.types w → HasFineHeads There (written_type raw.types w)
   written_heads w fits none =
       subst (HasFineHeads There) (filled_written (λ k. ty.Bool) raw.types w none)
-      (filled_fine raw count associated raw.types (FitsUnder raw count) (written_fit raw law count) new_state (λ k. ty.Bool) w fits (λ k stands. fine_bool There new_state)).heads
+      (filled_fine raw count associated later raw.types (FitsUnder raw count) (written_fit raw law count) new_state (λ k. ty.Bool) w fits (λ k stands. fine_bool There new_state)).heads
 
   pub is_written : (w : TypeRefId) → FitsUnder raw count w.0 → HasNoHole raw.types w → IsWritten There w
   is_written w fits none = record { within = fits.within; carried = written_carried raw law count w fits none; heads = written_heads w fits none }

@@ -2,16 +2,17 @@
 use Rattle.std.specs.Prelude.{◌≡◌, ℕ, List, map, Option, option_map, Bool, true, false, Some, None, [], ◌∷◌, slice_get, ◌⊎◌}
 use Rattle.infer_ctx.specs.Words.{IntegerTy, Assignment, folded, integer_type, terms_of, Ty, IsCarriedType, Scope, Meets, State, bindings, WaitingPair, waiting, BindsTypesOf, TypeMismatch, mismatch, At, InferenceResult, AllTypes, AllSeen}
 use Rattle.hir_types.specs.contracts.ty.TyPartialEq.TheImpl as same
-use Rattle.infer_ctx.specs.Words.infer_table.Solutions.{log_of}
+use Rattle.hir_types.specs.Own.{hole_const}
 use Rattle.infer_ctx.specs.declared.context.InferenceContext.{InferenceContext}
 use Rattle.infer_ctx.specs.Said.{said}
 use Rattle.infer_ctx.specs.Found.{Found}
 use Rattle.infer_ctx.specs.Fine.{is_fine_head, IsFine, IsFineAsked, AreFinePairs}
 
--- closed types of the carried kinds stand for holes, integer types for holes of integer types
+-- closed types without labels stand for holes, integer types for holes of integer types, and closed consts for those of consts
 pub record IsClosing (a : Assignment) : Type 0 where
   pub var : (n : ℕ) → IsCarriedType (a.var n)
   pub int_var : (n : ℕ) → (i : IntegerTy) × (a.int_var n ≡ integer_type i)
+  pub const_var : (n : ℕ) → hole_const (a.const_var n) ≡ false
 
 -- they do, and agree with all that is found out about the holes of the context
 pub record Closes (a : Assignment) (c : InferenceContext) : Type 0 where

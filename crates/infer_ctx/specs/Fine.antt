@@ -1,29 +1,53 @@
 -- Types that the walk may have in hand, and what is sound to have found out.
-use Rattle.std.specs.Prelude.{ℕ, Option, option_map, ◌==◌, ◌&&◌, nat_lt, true, false, Some, None, List, [], ◌∷◌, ◌<◌, length}
-use Rattle.infer_ctx.specs.Words.{CallableDefId, Ty, term, TypeRefId, RawFacts, signature_of, Scope, adt_params, alias_params, has_params, IsCarriedType, written_type, Shape, whole, IsMadeOf, State, HolesAreOf, WaitingPair, TypeMismatch, At}
+use Rattle.std.specs.Prelude.{ℕ, Bool, Option, option_map, ◌&&◌, nat_lt, true, false, Some, None, List, [], ◌∷◌, ◌<◌, length}
+use Rattle.infer_ctx.specs.Words.{CallableDefId, Head, Ty, TypeRefId, RawFacts, signature_of, Scope, adt_params, alias_params, IsCarriedType, written_type, Shape, all_types, has_types, no_parts, takes_types, IsTypeOf, State, HolesAreOf, WaitingPair, TypeMismatch, At}
 use Rattle.hir_types.specs.declared.head.Head.TheVariants as head
 
 -- how many parameters a function has, or a constructor that takes fields
 abbrev pub item_params : RawFacts → CallableDefId → Option ℕ
 item_params facts id = option_map (λ σ. σ.params) (signature_of facts id)
 
--- The heads of the types that the walk makes, and over how many parts: neither `{unknown}` nor an alias is among them, but for associated
--- types that stay, where there may be any; adts, associated types and items that can be called have as many arguments as parameters, and
--- parameters are in scope.
-abbrev pub is_fine_head : Scope → Shape
-is_fine_head sc head.Bool n = n == 0
-is_fine_head sc head.Char n = n == 0
-is_fine_head sc (head.Int i) n = n == 0
-is_fine_head sc (head.Uint i) n = n == 0
-is_fine_head sc head.Tuple n = true
-is_fine_head sc (head.Adt id) n = has_params (adt_params sc.facts id) n
-is_fine_head sc (head.FnDef id) n = has_params (item_params sc.facts id) n
-is_fine_head sc (head.Param i) n = n == 0 && nat_lt i sc.params
-is_fine_head sc (head.AssociatedType k) n = sc.associated && has_params (alias_params sc.facts k) n
-is_fine_head sc _ n = false
+-- an element type and a length
+abbrev pub is_type_and_const : List Head → Bool
+is_type_and_const (head.TypePart ∷ head.ConstPart ∷ []) = true
+is_type_and_const ms = false
 
+-- inputs and an output
+abbrev pub are_some_types : List Head → Bool
+are_some_types [] = false
+are_some_types (m ∷ ms) = all_types (m ∷ ms)
+
+-- The heads of types of later kinds that name nothing of the facts, and over which parts.
+abbrev pub is_later_head : Head → List Head → Bool
+is_later_head (head.Float f) ms = no_parts ms
+is_later_head head.Str ms = no_parts ms
+is_later_head head.Never ms = no_parts ms
+is_later_head head.Array ms = is_type_and_const ms
+is_later_head head.Slice ms = has_types 1 ms
+is_later_head (head.Ref m) ms = has_types 1 ms
+is_later_head (head.RawPtr m) ms = has_types 1 ms
+is_later_head (head.FnPtr s) ms = are_some_types ms
+is_later_head h ms = false
+
+-- The heads of the types that the walk may have in hand, and over which parts: neither `{unknown}` nor an alias is among them, but for
+-- associated types that stay, where there may be any, and those of later kinds only where there may be some; adts, associated types and
+-- items that can be called have as many types as parameters, and parameters are in scope.
+abbrev pub is_fine_head : Scope → Shape
+is_fine_head sc head.Bool ms = no_parts ms
+is_fine_head sc head.Char ms = no_parts ms
+is_fine_head sc (head.Int i) ms = no_parts ms
+is_fine_head sc (head.Uint i) ms = no_parts ms
+is_fine_head sc head.Tuple ms = all_types ms
+is_fine_head sc (head.Adt id) ms = takes_types (adt_params sc.facts id) ms
+is_fine_head sc (head.FnDef id) ms = takes_types (item_params sc.facts id) ms
+is_fine_head sc (head.Param i) ms = no_parts ms && nat_lt i sc.params
+is_fine_head sc (head.AssociatedType k) ms = sc.associated && takes_types (alias_params sc.facts k) ms
+is_fine_head sc (head.Value n) ms = no_parts ms
+is_fine_head sc h ms = is_later_head h ms && sc.later
+
+-- these heads alone stand in the type, and no label
 abbrev pub HasFineHeads : Scope → Ty → Type 0
-HasFineHeads sc t = IsMadeOf (is_fine_head sc) whole (term t)
+HasFineHeads sc = IsTypeOf (is_fine_head sc)
 
 -- these heads alone stand in the type, and holes that the table made
 pub record IsFine (sc : Scope) (state : State) (t : Ty) : Type 0 where

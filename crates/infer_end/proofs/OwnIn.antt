@@ -3,7 +3,7 @@ use Rattle.std.specs.Prelude.{◌≡◌, ℕ, zero, suc, List, [], ◌∷◌, le
 use Rattle.std.specs.Option.{option_and_then}
 use Rattle.std.proofs.Common.{refl, sym, ap, subst, ◌∙◌}
 use Rattle.std.proofs.lemmas.List.{length-map}
-use Rattle.infer_end.specs.Words.{BodyId, DefWithBodyId, FunctionId, TypeRefId, Ty, folded_agree, fallback, folded_itself, Assignment, each_itself, folded, RawBody, RawFacts, RawFn, RawType, fn_aliases, Scope, scope_of, params_of, has_associated, written_type, body_id_of, inputs_by, inputs_of, output_by, return_type, IsLawful, output_has_no_hole, definition_input_has_no_hole, direct_inputs_fit, direct_output_fits, IsPlainBodyOf, IsPlainSignature, IsCarriedType, carried_error, new_state, HolesAreOf, System, CanStand, IsKnownAs, EachIsKnownAs, AreOwnTypes, AreLetTypes, fn_aliases_by, aliases_of, written_inputs, recorded, IsCarriedIn}
+use Rattle.infer_end.specs.Words.{BodyId, DefWithBodyId, FunctionId, TypeRefId, Ty, folded_agree, fallback, folded_itself, Assignment, each_itself, folded, RawBody, RawFacts, RawFn, RawType, fn_aliases, Scope, scope_of, params_of, has_associated, has_later, written_type, body_id_of, inputs_by, inputs_of, output_by, return_type, IsLawful, output_has_no_hole, definition_input_has_no_hole, direct_inputs_fit, direct_output_fits, IsPlainBodyOf, IsPlainSignature, IsCarriedType, carried_error, new_state, HolesAreOf, System, CanStand, IsKnownAs, EachIsKnownAs, AreOwnTypes, AreLetTypes, fn_aliases_by, aliases_of, written_inputs, recorded, IsCarriedIn}
 use Rattle.hir_types.specs.declared.ids.DefWithBodyId.TheVariants as def
 use Rattle.hir_types.specs.declared.ty.IntegerTy.TheVariants.{Int}
 use Rattle.hir_types.specs.declared.ty.IntTy.TheVariants as int
@@ -55,14 +55,14 @@ module _ (raw : RawFacts) (law : IsLawful raw) where
   input_in_scope f None i found own none k w at here = absurd (cc)
   input_in_scope f (Some x) i found own none k w at here =
       let fits = direct_inputs_fit raw law f.0 x found (names_none raw law f.0 x found none) k w at in
-      let written = is_written raw law (params_of raw (def.FunctionId f)) (has_associated raw (def.FunctionId f)) w (rw found fits) (definition_input_has_no_hole raw law (def.FunctionId f) k w here) in
+      let written = is_written raw law (params_of raw (def.FunctionId f)) (has_associated raw (def.FunctionId f)) (has_later raw (def.FunctionId f)) w (rw found fits) (definition_input_has_no_hole raw law (def.FunctionId f) k w here) in
       record { carried = written.carried; heads = written.heads }
 
   output_in_scope : (f : FunctionId) (o : Option RawFn) (i : BodyId) → slice_get raw.fns f.0 ≡ o → option_and_then (λ x. x.body) o ≡ Some i → fn_aliases_by raw.types o ≡ [] → IsCarriedIn (scope_of raw (def.FunctionId f)) (output_by raw o)
   output_in_scope f None i found own none = absurd (cc)
   output_in_scope f (Some x) i found own none =
       let fits = direct_output_fits raw law f.0 x found (names_none raw law f.0 x found none) in
-      let written = is_written raw law (params_of raw (def.FunctionId f)) (has_associated raw (def.FunctionId f)) x.output (rw found fits) (output_has_no_hole raw law f.0 x found) in
+      let written = is_written raw law (params_of raw (def.FunctionId f)) (has_associated raw (def.FunctionId f)) (has_later raw (def.FunctionId f)) x.output (rw found fits) (output_has_no_hole raw law f.0 x found) in
       record { carried = written.carried; heads = written.heads }
 
   written_input_in : (d : DefWithBodyId) (i : BodyId) → body_id_of raw d ≡ Some i → aliases_of raw d ≡ [] → (k : ℕ) (w : TypeRefId) → slice_get (inputs_of raw d) k ≡ Some w → IsCarriedIn (scope_of raw d) (written_type raw.types w)

@@ -150,7 +150,7 @@ module _ (raw : RawFacts) (law : IsLawful raw) (i : ℕ) (a : RawAdt) (found : s
       let place = length x.fields - 1 in
       record {
         type = y.type_;
-        written = is_written raw law (length a.params) false y.type_ (fits_direct raw (length a.params) y.type_.0 (fields_fit raw law v.0 x a here adt place y last) (field_direct raw law v.0 x here none place y last)) (field_has_no_hole raw law v.0 x here place y last);
+        written = is_written raw law (length a.params) false false y.type_ (fits_direct raw (length a.params) y.type_.0 (fields_fit raw law v.0 x a here adt place y last) (field_direct raw law v.0 x here none place y last)) (field_has_no_hole raw law v.0 x here place y last);
         is = cc;
       }
 

@@ -22,7 +22,7 @@ pub use Rattle.hir_types.specs.declared.ids.TypeRefId.{TypeRefId}
 pub use Rattle.hir_types.specs.declared.ids.VariantId.{VariantId}
 pub use Rattle.hir_types.specs.declared.ty.GenericArg.{GenericArg}
 pub use Rattle.hir_types.specs.declared.ty.Ty.{Ty, Ty-F, out-Ty, out-roll-Ty}
-pub use Rattle.infer_obligations.specs.Words.{arg_fits, ty_fits, arg_fits_ty, ty_fits_adt, ty_fits_associated, ty_fits_bool, ty_fits_char, ty_fits_error, ty_fits_fndef, ty_fits_int, ty_fits_intvar, ty_fits_param, ty_fits_tuple, ty_fits_uint, ty_fits_var, arg_types, is_sized_lang, fn_aliases, variant_aliases, expr_aliases, let_aliases, masked, stmt_aliases, other_is_itself, callee, expr_part, inner, parts_of_expr, stmts_of, Scope, adt_params, alias_params, callable_params, count_or_none, fn_arity, has_associated, has_associated_by, has_params, is_size_goal, names_alias, params_of, scope_of, types_scope, variant_arity, Signature, at_args, ctor_signature, ctor_type_by, fn_signature, own_adt, signature_by, signature_of, taken_types, type_args, StandsIn, filled_by, in_part, is_itself, type_parts, written_type, RawAdt, RawAdtKind, RawBody, RawCtor, RawExpr, RawFacts, RawField, RawFn, RawGoal, RawLang, RawPath, RawStmt, RawTraitRef, RawType, RawVariant, Schedule, TypeAliasId, Grew, MismatchAt, mismatch}
+pub use Rattle.infer_obligations.specs.Words.{arg_fits, ty_fits, arg_fits_ty, ty_fits_adt, ty_fits_associated, ty_fits_bool, ty_fits_char, ty_fits_error, ty_fits_fndef, ty_fits_int, ty_fits_intvar, ty_fits_param, ty_fits_tuple, ty_fits_uint, ty_fits_var, arg_types, is_sized_lang, fn_aliases, variant_aliases, expr_aliases, let_aliases, masked, stmt_aliases, other_is_itself, callee, expr_part, inner, parts_of_expr, stmts_of, Scope, adt_params, alias_params, callable_params, count_or_none, fn_arity, has_associated, has_later, has_associated_by, has_params, is_size_goal, names_alias, params_of, scope_of, types_scope, variant_arity, Signature, at_args, ctor_signature, ctor_type_by, fn_signature, own_adt, signature_by, signature_of, taken_types, type_args, StandsIn, filled_by, in_part, is_itself, type_parts, written_type, RawAdt, RawAdtKind, RawBody, RawCtor, RawExpr, RawFacts, RawField, RawFn, RawGoal, RawLang, RawPath, RawStmt, RawTraitRef, RawType, RawVariant, Schedule, TypeAliasId, Grew, MismatchAt, mismatch}
 unfoldable pub use Rattle.infer_obligations.specs.Words.{filled_within}
 pub use Rattle.infer_obligations.specs.Words.{IsWalkable, body_id_of, body_of, inputs_by, inputs_of, output_by, return_type, is_carried_body, is_empty, is_in_module, IsCarriedType, carried_adt, carried_bool, carried_char, holds_hole, none_occurs, open_term, IsCarriedArg, AreCarriedTypes, carried_fn_def, carried_error, carried_integer, carried_param, carried_tuple, constructor_exists, constructor_pattern_exists, function_exists, tuple_struct_exists, BodyIdsExist, adt_variants, IsLawful, adt_ids, body_ids, variant_ids, In, definition_input_has_no_hole, field_has_no_hole, in_flat, output_has_no_hole, HasPlainBody, HasSizedParams, IsPlainAdt, IsPlainBody, IsPlainBodyOf, IsPlainExpr, IsPlainKind, IsPlainPath, IsPlainSignature, IsPlainStmt, IsPlainType, adt_fields, fields_by, is_item, is_plain_adt_kind, is_tuple_ctor, is_tuple_variant, is_unit_or_tuple, IsPlainIn, plain_adt, plain_bool, plain_char, plain_integer, plain_param, plain_tuple, SignatureNamesNone, are_direct_structs, is_below, is_direct_struct, is_direct_variant, is_number, is_one_sized_lang, is_sized_of, is_sized_pred, is_sized_trait, only_param, param_number, sized_param, direct_inputs_fit, direct_output_fits, fields_fit, fits_direct, lets_fit}
 pub use Rattle.infer_obligations.specs.Words.{completion, FellBack, are_of_parts, BindsOnly, IsMadeOf, all_types, has_types, no_parts, takes_types, IsPartMark, IsMark, IsTypeOf, IsWider, BindsTypesOf, HasNoLabel, AreBare, AddsBare, AssignsNoLabel, PutsNoLabel, still_bare, erased_twice, read_bare, same_terms, replaced_bare, folded_bare, bare_var, bare_int_var, type_of_resolved, type_of_folded, made_wider, mark_of, marks, marks_apply, only_apply, only_heads, only_is_made, only_solves, solved_only, part_mark, leaf_mark, plain_rest, TermRole, made_of_resolved_term, part, rest, whole, width, resolution, AreOf, Respects, Triangular, HolesAreOf, Meets, State, bindings, new_state, resolved_type, hole_eq_same}

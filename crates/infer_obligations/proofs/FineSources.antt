@@ -240,7 +240,7 @@ module _ (raw : RawFacts) (law : IsLawful raw) where
     type_heads : (w : TypeRefId) → IsFitIfDirect (length ts) w → IsConcrete (type_at raw (type_args ts) w) → IsMadeOf P whole (type_at raw (type_args ts) w)
     type_heads w if_direct concrete =
         let h = if_direct (concrete_direct (type_args ts) w concrete) in
-        let own : HasFineHeads (types_scope raw (length ts)) (written_type raw.types w) = written_heads raw law (length ts) false w h.fits h.no_hole in
+        let own : HasFineHeads (types_scope raw (length ts)) (written_type raw.types w) = written_heads raw law (length ts) false false w h.fits h.no_hole in
         heads_at_args sc ts all (written_type raw.types w) (subst (λ (r : RawFacts). HasFineHeads (types_scope r (length ts)) (written_type raw.types w)) (sym same) own)
 
     chain_fine : (ws : List TypeRefId) → AreFit (length ts) ws → AreFineArgs P (chain (map (λ w. type_part (type_at raw (type_args ts) w)) ws))

@@ -1,24 +1,24 @@
 -- Types that can stand in the body of a definition, and what a body knows of a type that is written with associated types: what it reads as
 -- in the scope of the definition, if that can stand there.
-use Rattle.std.specs.Prelude.{ℕ, ◌≡◌, ◌==◌, ◌&&◌, Bool, true, false, nat_lt, Option, Some, None}
+use Rattle.std.specs.Prelude.{ℕ, ◌≡◌, ◌&&◌, Bool, false, nat_lt, Option, Some, None}
 use Rattle.hir_types.specs.declared.head.Head.TheVariants as head
-use Rattle.infer_result.specs.Words.{Ty, term, RawFacts, Scope, adt_params, alias_params, has_params, Shape, whole, IsMadeOf, State, new_state, HolesAreOf, System, TypeReads, IsTypeRead}
+use Rattle.infer_result.specs.Words.{Ty, term, RawFacts, Scope, adt_params, alias_params, Shape, whole, all_types, no_parts, takes_types, IsMadeOf, State, new_state, HolesAreOf, System, TypeReads, IsTypeRead}
 
 -- the scope of a body, from its parts
 abbrev pub body_scope : RawFacts → ℕ → Bool → Scope
 body_scope raw n b = record { facts = raw; params = n; associated = b; later = false }
 
--- The heads of types that can be written in this scope, or are associated types that stay, and over how many parts.
+-- The heads of types that can be written in this scope, or are associated types that stay, and over which parts.
 abbrev pub is_read_head : Scope → Shape
-is_read_head sc head.Bool n = n == 0
-is_read_head sc head.Char n = n == 0
-is_read_head sc (head.Int i) n = n == 0
-is_read_head sc (head.Uint i) n = n == 0
-is_read_head sc head.Tuple n = true
-is_read_head sc (head.Adt id) n = has_params (adt_params sc.facts id) n
-is_read_head sc (head.Param i) n = n == 0 && nat_lt i sc.params
-is_read_head sc (head.AssociatedType k) n = sc.associated && has_params (alias_params sc.facts k) n
-is_read_head sc _ n = false
+is_read_head sc head.Bool ms = no_parts ms
+is_read_head sc head.Char ms = no_parts ms
+is_read_head sc (head.Int i) ms = no_parts ms
+is_read_head sc (head.Uint i) ms = no_parts ms
+is_read_head sc head.Tuple ms = all_types ms
+is_read_head sc (head.Adt id) ms = takes_types (adt_params sc.facts id) ms
+is_read_head sc (head.Param i) ms = no_parts ms && nat_lt i sc.params
+is_read_head sc (head.AssociatedType k) ms = sc.associated && takes_types (alias_params sc.facts k) ms
+is_read_head sc _ ms = false
 
 -- such a type, over holes that the table made
 pub record IsInHand (sc : Scope) (state : State) (t : Ty) : Type 0 where

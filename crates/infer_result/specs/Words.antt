@@ -34,7 +34,7 @@ pub use Rattle.hir_types.specs.declared.ty.Safety.{Safety}
 pub use Rattle.hir_types.specs.declared.ty.TraitRef.{TraitRef, TraitRef-F, fold-TraitRef, fold-roll-TraitRef, out-TraitRef}
 pub use Rattle.hir_types.specs.declared.ty.Ty.{Ty, Ty-F, fold-Ty, fold-roll-Ty, out-Ty, out-roll-Ty}
 pub use Rattle.hir_types.specs.declared.ty.UintTy.{UintTy}
-pub use Rattle.goal_facts.specs.Words.{arg_fits, ty_fits, arg_fits_ty, ty_fits_adt, ty_fits_bool, ty_fits_char, ty_fits_fndef, ty_fits_int, ty_fits_intvar, ty_fits_param, ty_fits_tuple, ty_fits_uint, ty_fits_var, fn_aliases, variant_aliases, let_aliases, masked, Fits, IsNode, IsSchedule, Node, Part, Role, after, argument, arguments, arguments_from, is_closure, is_wanted, only_if, later_nodes, later_parts, later_pat_nodes, arm, arm_parts, arm_pattern, arm_patterns, arms_parts, callee, condition, element, else_branch, end, expr_part, exprs_from, guard, initializer, inner, let_else, let_pattern, maybe_part, param_parts, parameter, part_at, parts, parts_of_expr, parts_of_pat, pat_part, pattern_literal, root, scrutinee, start, statement, stmt_at, stmt_parts, stmts_of, stmts_parts, subpattern, subpatterns, tail, the_body, then_branch, Scope, adt_params, alias_params, callable_params, count_or_none, fn_arity, has_params, names_item, scope_of, types_scope, variant_arity, Signature, at_args, ctor_item, ctor_signature, ctor_type, ctor_type_by, field_types, fn_signature, fn_types, own_adt, own_adt_at, params_from, signature_by, signature_of, taken_types, type_args, variant_types, StandsIn, filled_by, filled_type, in_part, is_itself, lowered, lowered_by, written_type, RawAdt, RawAdtKind, RawAlias, RawArm, RawBinding, RawBody, RawCtor, RawExpr, RawFacts, RawField, RawFn, RawGoal, RawLiteral, RawParam, RawPat, RawPath, RawStmt, RawTrait, RawType, RawVariant, Schedule, params_of, has_associated, HasMadeIf, AreOf}
+pub use Rattle.goal_facts.specs.Words.{arg_fits, ty_fits, arg_fits_ty, ty_fits_adt, ty_fits_bool, ty_fits_char, ty_fits_fndef, ty_fits_int, ty_fits_intvar, ty_fits_param, ty_fits_tuple, ty_fits_uint, ty_fits_var, fn_aliases, variant_aliases, let_aliases, masked, Fits, IsNode, IsSchedule, Node, Part, Role, after, argument, arguments, arguments_from, is_closure, is_wanted, only_if, later_nodes, later_parts, later_pat_nodes, arm, arm_parts, arm_pattern, arm_patterns, arms_parts, callee, condition, element, else_branch, end, expr_part, exprs_from, guard, initializer, inner, let_else, let_pattern, maybe_part, param_parts, parameter, part_at, parts, parts_of_expr, parts_of_pat, pat_part, pattern_literal, root, scrutinee, start, statement, stmt_at, stmt_parts, stmts_of, stmts_parts, subpattern, subpatterns, tail, the_body, then_branch, Scope, adt_params, alias_params, callable_params, count_or_none, fn_arity, has_params, names_item, scope_of, types_scope, variant_arity, Signature, at_args, ctor_item, ctor_signature, ctor_type, ctor_type_by, field_types, fn_signature, fn_types, own_adt, own_adt_at, params_from, signature_by, signature_of, taken_types, type_args, variant_types, StandsIn, filled_by, filled_type, in_part, is_itself, lowered, lowered_by, written_type, RawAdt, RawAdtKind, RawAlias, RawArm, RawBinding, RawBody, RawCtor, RawExpr, RawFacts, RawField, RawFn, RawGoal, RawLiteral, RawParam, RawPat, RawPath, RawStmt, RawTrait, RawType, RawVariant, Schedule, params_of, has_associated, has_later, HasMadeIf, AreOf}
 unfoldable pub use Rattle.goal_facts.specs.Words.{filled_within}
 pub use Rattle.goal_facts.specs.Words.{body_of, inputs_of, return_type, AreCarriedArgs, IsCarriedType, carried_adt, carried_bool, carried_char, holds_hole, none_occurs, open_term, IsCarriedArg, AreCarriedTypes, carried_error, carried_fn_def, carried_integer, carried_param, carried_tuple, carried_type_arg, same_carried, filled_agree, filled_folded, filled_written, is_hole, IsLawful, IsPlainBodyOf, IsPlainExpr, IsPlainFn, IsPlainOver, IsPlainPat, IsPlainStmt, stands_right, ArePlainIn, IsPlainIn, plain_adt, plain_bool, plain_char, plain_integer, plain_param, plain_tuple, are_direct_structs, HasNoHole}
 pub use Rattle.goal_facts.specs.Words.{IsEnd, IsMadeOf, all_types, has_types, no_parts, takes_types, IsPartMark, IsMark, IsTypeOf, IsWider, BindsTypesOf, HasNoLabel, AreBare, AddsBare, AssignsNoLabel, PutsNoLabel, still_bare, erased_twice, read_bare, same_terms, replaced_bare, folded_bare, bare_var, bare_int_var, type_of_resolved, type_of_folded, made_wider, mark_of, marks, marks_apply, only_apply, only_heads, only_is_made, only_solves, solved_only, part_mark, leaf_mark, plain_rest, Shape, TermRole, part, rest, whole, width, HolesAreOf, State, new_state}

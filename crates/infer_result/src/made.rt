@@ -1,7 +1,7 @@
 //! Whether a term is that of a type in scope, of which no part is an associated type that is still to be read, an item that can be called or
 //! `{unknown}`.
 ghost use Rattle.std.specs.Prelude.{◌≡◌, ◌↔◌, IsTrue};
-ghost use Rattle.infer_result.specs.Words.{alias_params, has_params, whole, part, rest, width, IsTypeMark, IsEnd, IsMadeOf, term_of};
+ghost use Rattle.infer_result.specs.Words.{alias_params, all_types, has_types, takes_types, leaf_mark, part_mark, mark_of, marks, whole, part, rest, IsPartMark, IsMark, IsEnd, IsMadeOf, term_of};
 ghost use Rattle.infer_result.specs.Words.infer_table.Preserved.{IsHead};
 ghost use Rattle.infer_result.specs.Own.{is_read_head, body_scope};
 
@@ -10,57 +10,121 @@ use hir_facts::RawFacts;
 use hir_raw::alias_params;
 use hir_types::{Head, TypeAliasId};
 
-/// Whether these are so many parts.
-#[tactic(auto, using(crate::specs::Words::term_is))]
-fn has_parts(parts: &Term, count: usize) -> bool
-    ensures { IsTrue result ↔ (width (term_of parts.now) ≡ count) }
+/// The mark of a part without parts.
+fn leaf_mark(head: Head) -> Head
+    ensures { result ≡ leaf_mark head }
 {
-    match parts {
-        Term::Hole(_) | Term::Leaf(_) => count == 0,
-        Term::Pair(_, others) => count > 0 && has_parts(others.get(), count - 1),
+    match head {
+        Head::Principal(id) => Head::Principal(id),
+        Head::NoPrincipal => Head::NoPrincipal,
+        Head::Bound(id) => Head::Bound(id),
+        Head::AutoTrait(id) => Head::AutoTrait(id),
+        _ => Head::TypePart,
     }
 }
 
-/// Whether these are as many parts as the associated type has parameters.
+/// The mark before a type or a const.
+#[tactic(auto, using(crate::specs::Words::term_is))]
+fn part_mark(term: &Term) -> Head
+    ensures { result ≡ part_mark (term_of term.now) }
+{
+    match term {
+        Term::Leaf(Head::ConstPart) => Head::ConstPart,
+        Term::Hole(_) | Term::Leaf(_) | Term::Pair(_, _) => Head::TypePart,
+    }
+}
+
+/// The mark of a part.
+#[tactic(auto, using(crate::specs::Words::term_is))]
+fn mark_of(term: &Term) -> Head
+    ensures { result ≡ mark_of (term_of term.now) }
+{
+    match term {
+        Term::Hole(_) => Head::TypePart,
+        Term::Leaf(head) => leaf_mark(*head),
+        Term::Pair(first, _) => part_mark(first.get()),
+    }
+}
+
+/// Whether these are so many types.
+#[tactic(auto, using(crate::specs::Words::term_is))]
+fn has_types(parts: &Term, count: usize) -> bool
+    ensures { IsTrue result ↔ IsTrue (has_types count (marks (term_of parts.now))) }
+{
+    match parts {
+        Term::Hole(_) | Term::Leaf(_) => count == 0,
+        Term::Pair(first, others) => match mark_of(first.get()) {
+            Head::TypePart => count > 0 && has_types(others.get(), count - 1),
+            _ => false,
+        },
+    }
+}
+
+/// Whether these are types alone.
+#[tactic(auto, using(crate::specs::Words::term_is))]
+fn are_types(parts: &Term) -> bool
+    ensures { IsTrue result ↔ IsTrue (all_types (marks (term_of parts.now))) }
+{
+    match parts {
+        Term::Hole(_) | Term::Leaf(_) => true,
+        Term::Pair(first, others) => match mark_of(first.get()) {
+            Head::TypePart => are_types(others.get()),
+            _ => false,
+        },
+    }
+}
+
+/// Whether these are as many types as the associated type has parameters.
 fn are_alias_parts(facts: &RawFacts, id: TypeAliasId, parts: &Term) -> bool
-    ensures { IsTrue result ↔ IsTrue (has_params (alias_params facts.now id) (width (term_of parts.now))) }
+    ensures { IsTrue result ↔ IsTrue (takes_types (alias_params facts.now id) (marks (term_of parts.now))) }
 {
     match alias_params(facts, id) {
-        Some(params) => has_parts(parts, params),
+        Some(params) => has_types(parts, params),
         None => false,
     }
 }
 
 /// Whether a head may stand over these parts, where so many parameters are in scope, and associated types that stay may be types or not.
 fn is_read_head(facts: &RawFacts, params: usize, associated: bool, head: Head, parts: &Term) -> bool
-    ensures { IsTrue result ↔ IsTrue (is_read_head (body_scope facts.now params associated) head (width (term_of parts.now))) }
+    ensures { IsTrue result ↔ IsTrue (is_read_head (body_scope facts.now params associated) head (marks (term_of parts.now))) }
 {
     match head {
-        Head::Bool | Head::Char | Head::Int(_) | Head::Uint(_) => has_parts(parts, 0),
-        Head::Tuple => true,
+        Head::Bool | Head::Char | Head::Int(_) | Head::Uint(_) => has_types(parts, 0),
+        Head::Tuple => are_types(parts),
         Head::Adt(id) => match facts.adts.get(id.0 as usize) {
-            Some(adt) => has_parts(parts, adt.params.len()),
+            Some(adt) => has_types(parts, adt.params.len()),
             None => false,
         },
-        Head::Param(number) => has_parts(parts, 0) && (number as usize) < params,
+        Head::Param(number) => has_types(parts, 0) && (number as usize) < params,
         Head::AssociatedType(id) => associated && are_alias_parts(facts, id, parts),
         _ => false,
     }
 }
 
+/// Whether what stands first says that a type or a const follows.
 #[tactic(auto, using(crate::specs::Words::term_is))]
-fn is_type_mark(term: &Term) -> bool
-    ensures { IsTrue result ↔ IsTypeMark (term_of term.now) }
+fn is_part_mark(term: &Term) -> bool
+    ensures { IsTrue result ↔ IsPartMark (term_of term.now) }
 {
     match term {
-        Term::Leaf(Head::TypePart) => true,
+        Term::Leaf(Head::TypePart) | Term::Leaf(Head::ConstPart) => true,
         Term::Hole(_) | Term::Leaf(_) | Term::Pair(_, _) => false,
+    }
+}
+
+/// Whether it is a part by itself.
+fn is_mark(head: Head) -> bool
+    ensures { IsTrue result ↔ IsMark head }
+{
+    match head {
+        Head::Principal(_) | Head::NoPrincipal | Head::Bound(_) | Head::AutoTrait(_) => true,
+        _ => false,
     }
 }
 
 #[tactic(auto, using(crate::specs::Words::term_is))]
 fn is_over(facts: &RawFacts, params: usize, associated: bool, first: &Term, parts: &Term) -> bool
-    ensures { IsTrue result ↔ IsHead (is_read_head (body_scope facts.now params associated)) (term_of first.now) (width (term_of parts.now)) }
+    ensures { IsTrue result ↔ IsHead (is_read_head (body_scope facts.now params associated)) (term_of first.now) (marks (term_of parts.now)) }
 {
     match first {
         Term::Leaf(head) => is_read_head(facts, params, associated, *head, parts),
@@ -90,8 +154,9 @@ fn is_read_part(facts: &RawFacts, params: usize, associated: bool, term: &Term) 
     ensures { IsTrue result ↔ IsMadeOf (is_read_head (body_scope facts.now params associated)) part (term_of term.now) }
 {
     match term {
-        Term::Hole(_) | Term::Leaf(_) => false,
-        Term::Pair(first, ty) => is_type_mark(first.get())
+        Term::Hole(_) => false,
+        Term::Leaf(head) => is_mark(*head),
+        Term::Pair(first, ty) => is_part_mark(first.get())
             && is_read_type(facts, params, associated, ty.get()),
     }
 }

@@ -72,7 +72,7 @@ call_obeys = inl (record {
 })
 
 closed_callee : IsClosed (item (u8 ∷ []))
-closed_callee = closed_item (u8 ∷ []) (rw (carried_type_arg u8 ∙ carried_integer (integer.Uint uint.U8)) refl)
+closed_callee = closed_item (u8 ∷ []) (carried_type_arg u8 (carried_integer (integer.Uint uint.U8)), tt)
 
 right_made : IsMade given right
 right_made = record {

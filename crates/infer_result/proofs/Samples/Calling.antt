@@ -1,6 +1,6 @@
 -- What the samples of calls share: a body `{ f(x) }` that calls the one function of the facts with a literal.
 use Rattle.std.proofs.Common.{ℕ, ◌+◌, ◌<◌, ◌≡◌, inl, inr, List, [], ◌∷◌, length, map, refl, sym, ap, subst, ◌∙◌, arith, Some, None, slice_get}
-use Rattle.infer_result.specs.Words.{ExprId, FunctionId, GenericArg-F, out-GenericArg, out-roll-GenericArg, Ty, RawLiteral, RawType, RawFn, RawBody, Schedule, IsClosed, AreCarriedArgs, carried_fn_def, carried_bare, argument, the_body, inner, IsSchedule, start, end, after, Fits, parts, written_type, Signature, fn_types, fn_signature, signature_of, type_args, at_args}
+use Rattle.infer_result.specs.Words.{ExprId, FunctionId, GenericArg-F, out-GenericArg, out-roll-GenericArg, Ty, RawLiteral, RawType, RawFn, RawBody, Schedule, IsClosed, AreCarriedArgs, carried_fn_def, argument, the_body, inner, IsSchedule, start, end, after, Fits, parts, written_type, Signature, fn_types, fn_signature, signature_of, type_args, at_args}
 use Rattle.hir_types.specs.declared.ids.ExprOrPatId.TheVariants as node
 use Rattle.hir_types.specs.declared.ids.CallableDefId.TheVariants as callable
 use Rattle.hir_types.specs.declared.ty.GenericArg.TheVariants as arg
@@ -55,7 +55,7 @@ abbrev pub item : List Ty → Ty
 item ts = ty.FnDef (callable.FunctionId function) (type_args ts)
 
 pub closed_item : (ts : List Ty) → AreCarriedArgs (type_args ts) → IsClosed (item ts)
-closed_item ts h = (carried_bare (item ts) (carried_fn_def (callable.FunctionId function) (type_args ts) ∙ h)).closed
+closed_item ts h = (carried_fn_def (callable.FunctionId function) (type_args ts) h).closed
 
 pub top_arg : (t : Ty) → out-GenericArg (arg.Ty t) ≡ GenericArg-F.Ty t
 top_arg t = ap out-GenericArg (sym (arg.rolls-Ty t)) ∙ out-roll-GenericArg (GenericArg-F.Ty t)

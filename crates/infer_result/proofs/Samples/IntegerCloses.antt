@@ -1,8 +1,6 @@
 -- Each plain derivation of the body of `GeneralInteger` is a closing of its types with a hole, so these are the most general ones of it.
 use Rattle.std.proofs.Common.{ℕ, suc, ◌<◌, ◌≡◌, inl, inr, List, [], ◌∷◌, length, map, refl, sym, ap, subst, ◌∙◌, arith, Option, Some, slice_get}
-use Rattle.std.specs.Prelude.{◌&&◌, true}
-use Rattle.std.specs.List.{list_all}
-use Rattle.infer_result.specs.Words.{CallableDefId, IntegerTy, Ty, erased, Same, integer_type, unit, RawBody, IsCarriedType, is_carried_type, is_carried_arg, carried_bool, carried_char, carried_integer, carried_tuple, carried_adt, carried_param, carried_type_arg, same_carried, IsPlainIn, plain_bool, plain_char, plain_integer, plain_tuple, plain_adt, plain_param, Scope, Signature, fn_signature, signature_of, type_args, at_args}
+use Rattle.infer_result.specs.Words.{CallableDefId, IntegerTy, Ty, erased, Same, integer_type, unit, RawBody, IsCarriedType, AreCarriedTypes, AreCarriedArgs, carried_bool, carried_char, carried_integer, carried_tuple, carried_adt, carried_param, carried_type_arg, same_carried, IsPlainIn, plain_bool, plain_char, plain_integer, plain_tuple, plain_adt, plain_param, Scope, Signature, fn_signature, signature_of, type_args, at_args}
 use Rattle.hir_types.specs.declared.ids.CallableDefId.TheVariants as callable
 use Rattle.hir_types.specs.declared.ty.Const.TheVariants as const
 use Rattle.hir_types.specs.declared.ty.Ty.TheVariants as ty
@@ -16,20 +14,20 @@ use Rattle.infer_result.proofs.Samples.PlainDerivation.{not_called}
 
 -- ---- plain types are carried
 
-all_carried : (ts : List Ty) → ((k : ℕ) (u : Ty) → slice_get ts k ≡ Some u → IsCarriedType u) → list_all is_carried_type ts ≡ true
-all_carried [] h = refl
-all_carried (t ∷ ts) h = λ i. h 0 t refl i && all_carried ts (λ k u found. h (suc k) u found) i
+all_carried : (ts : List Ty) → ((k : ℕ) (u : Ty) → slice_get ts k ≡ Some u → IsCarriedType u) → AreCarriedTypes ts
+all_carried [] h = tt
+all_carried (t ∷ ts) h = (h 0 t refl, all_carried ts (λ k u found. h (suc k) u found))
 
-args_carried : (ts : List Ty) → ((k : ℕ) (u : Ty) → slice_get ts k ≡ Some u → IsCarriedType u) → list_all is_carried_arg (type_args ts) ≡ true
-args_carried [] h = refl
-args_carried (t ∷ ts) h = λ i. (carried_type_arg t ∙ h 0 t refl) i && args_carried ts (λ k u found. h (suc k) u found) i
+args_carried : (ts : List Ty) → ((k : ℕ) (u : Ty) → slice_get ts k ≡ Some u → IsCarriedType u) → AreCarriedArgs (type_args ts)
+args_carried [] h = tt
+args_carried (t ∷ ts) h = (carried_type_arg t (h 0 t refl), args_carried ts (λ k u found. h (suc k) u found))
 
 pub plain_is_carried : (sc : Scope) (t : Ty) → IsPlainIn sc t → IsCarriedType t
 plain_is_carried sc _ plain_bool = carried_bool
 plain_is_carried sc _ plain_char = carried_char
 plain_is_carried sc _ (plain_integer i) = carried_integer i
-plain_is_carried sc _ (plain_tuple ts parts) = carried_tuple ts ∙ all_carried ts (λ k u found. plain_is_carried sc u (parts k u found))
-plain_is_carried sc _ (plain_adt a ts is_plain count parts) = carried_adt a (type_args ts) ∙ args_carried ts (λ k u found. plain_is_carried sc u (parts k u found))
+plain_is_carried sc _ (plain_tuple ts parts) = carried_tuple ts (all_carried ts (λ k u found. plain_is_carried sc u (parts k u found)))
+plain_is_carried sc _ (plain_adt a ts is_plain count parts) = carried_adt a (type_args ts) (args_carried ts (λ k u found. plain_is_carried sc u (parts k u found)))
 plain_is_carried sc _ (plain_param n below) = carried_param n
 
 -- plain types that are the same but for labels are equal

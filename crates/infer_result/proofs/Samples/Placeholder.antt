@@ -151,7 +151,7 @@ right_typed = typed_by_schedule given right schedule is_schedule right_made
 -- ---- refused
 
 carried_pair : (s : Ty) → IsCarriedType s → IsCarriedType (pair_of s)
-carried_pair s h = carried_tuple (s ∷ ty.Bool ∷ []) ∙ rw (h, carried_bool) refl
+carried_pair s h = carried_tuple (s ∷ ty.Bool ∷ []) (h, (carried_bool, tt))
 
 pairs_differ : Same (pair_of u8) (pair_of u16) → ⊥
 pairs_differ h =

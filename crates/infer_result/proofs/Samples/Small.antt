@@ -323,10 +323,10 @@ pub u8_differs_bool : Same u8 ty.Bool → ⊥
 u8_differs_bool h = u8_is_no_bool (same_carried u8 ty.Bool (carried_integer (integer.Uint uint.U8)) carried_bool h)
 
 pub u8_differs_unit : Same u8 (ty.Tuple []) → ⊥
-u8_differs_unit h = u8_is_no_unit (same_carried u8 (ty.Tuple []) (carried_integer (integer.Uint uint.U8)) (carried_tuple []) h)
+u8_differs_unit h = u8_is_no_unit (same_carried u8 (ty.Tuple []) (carried_integer (integer.Uint uint.U8)) (carried_tuple [] tt) h)
 
 pub u8_differs_u16 : Same u8 u16 → ⊥
 u8_differs_u16 h = u8_is_no_u16 (same_carried u8 u16 (carried_integer (integer.Uint uint.U8)) (carried_integer (integer.Uint uint.U16)) h)
 
 pub bool_differs_unit : Same ty.Bool (ty.Tuple []) → ⊥
-bool_differs_unit h = bool_is_no_unit (same_carried ty.Bool (ty.Tuple []) carried_bool (carried_tuple []) h)
+bool_differs_unit h = bool_is_no_unit (same_carried ty.Bool (ty.Tuple []) carried_bool (carried_tuple [] tt) h)

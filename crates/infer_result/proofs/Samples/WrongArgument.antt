@@ -99,7 +99,7 @@ right_made = record {
   shape = record {
     of_body = record { exprs = refl; pats = refl; bindings = refl; items = refl; modes = refl; mismatches = refl; diagnostics = refl; pat_mismatches = refl; pat_diagnostics = refl; expr_variants = refl; pat_variants = refl };
     closed = record {
-      exprs = each_entry IsClosed right.type_of_expr (closed_item [] refl, (closed_bool, (closed_unit, (closed_unit, tt))));
+      exprs = each_entry IsClosed right.type_of_expr (closed_item [] tt, (closed_bool, (closed_unit, (closed_unit, tt))));
       pats = λ n s h. absurd (cc);
       bindings = λ n s h. absurd (cc);
       placeholders = λ k s at. absurd (cc);

@@ -99,7 +99,7 @@ carried_u8 : IsCarriedType u8
 carried_u8 = carried_integer (integer.Uint uint.U8)
 
 single_differs_pair : Same single pair → ⊥
-single_differs_pair h = single_is_no_pair (same_carried single pair (carried_tuple (u8 ∷ []) ∙ rw (carried_u8) refl) (carried_tuple (u8 ∷ ty.Error ∷ []) ∙ rw (carried_u8, carried_error) refl) h)
+single_differs_pair h = single_is_no_pair (same_carried single pair (carried_tuple (u8 ∷ []) (carried_u8, tt)) (carried_tuple (u8 ∷ ty.Error ∷ []) (carried_u8, (carried_error, tt))) h)
 
 block_obeys : ObeysOrMismatch given right (e 1)
 block_obeys =
