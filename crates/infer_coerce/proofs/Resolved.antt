@@ -1,7 +1,6 @@
 -- Types with what their holes are bound to.
 use Rattle.std.proofs.Common.{sym, subst, List, [], ◌∷◌, map}
-use Rattle.infer_coerce.specs.Words.{Ty, term, Scope, AllOf, BindsTypesOf, made_of_resolved_term, resolution_term, AreOf, State, bindings, resolved_type, AllFine, IsFine, is_fine_head}
-use Rattle.infer_coerce.specs.Words.infer_table.Solutions.{log_of}
+use Rattle.infer_coerce.specs.Words.{Ty, term, Scope, AllOf, BindsTypesOf, type_of_resolved, resolution_term, AreOf, State, bindings, resolved_type, AllFine, IsFine, is_fine_head}
 use Rattle.infer_coerce.proofs.Words.{resolved_made}
 
 -- a fine type is still fine
@@ -10,7 +9,7 @@ pub resolved_fine : (sc : Scope) (state : State) (t : Ty) → AllOf state.substi
 resolved_fine sc state t made bound fine = record {
   holes = subst (λ x. AreOf state.substitution.kinds x) (sym (resolution_term (bindings state) t))
       (resolved_made state.substitution.kinds (bindings state) (term t) made fine.holes);
-  heads = made_of_resolved_term (is_fine_head sc) state t bound fine.heads;
+  heads = type_of_resolved (is_fine_head sc) state t bound fine.heads;
 }
 
 pub all_resolved_fine : (sc : Scope) (state : State) (ts : List Ty) → AllOf state.substitution.kinds (bindings state)

@@ -1,54 +1,72 @@
 -- Two types unified, or refused, at an expression.
-use Rattle.std.proofs.Common.{◌≡◌, refl, subst, sym, Bool, ◌∙◌, true, false, arith, ℕ, zero, suc, ◌+◌, ◌++◌, if◌then◌else◌, List, [], ◌∷◌, length, Some, slice_get, ◌⊎◌, inl, inr, ap, None, ◌<◌, Option, Ok, Err}
+use Rattle.std.proofs.Common.{◌≡◌, refl, subst, sym, Bool, ◌∙◌, true, false, true≢false, arith, ℕ, zero, suc, ◌+◌, ◌++◌, if◌then◌else◌, List, [], ◌∷◌, length, Some, slice_get, ◌⊎◌, inl, inr, ap, None, ◌<◌, Option, Ok, Err}
 use Rattle.std.proofs.Math.Nat.{eq-or-lt_of_le}
-use Rattle.infer_coerce.specs.Words.{IntegerTy, term, IsInt, hole, terms_of, term_bool, term_char, term_error, term_param, term_tuple, term_adt_types, term_fn_def_types, term_associated_types, integer_type, Hole, Ty, Assignment, composed, folded, ExprId, IsCarriedType, carried_error, Scope, fallback, completion, whole, IsMadeOf, BindsTypesOf, made_of_resolved, unified_makes_same, refused_apart, binds_only_unified, resolution, resolution_terms, IsOpenOrKnown, Respects, Solves, State, bindings, Meets, AreUnified, AreRefused, AreUnifiedIf, Grew, TakesFirstKnown, TakesKnown, resolved_type, resolved_term, is_type_hole, with_waiting, waiting, Waiting, with_pair, is_taken, WaitingPair, Substitution, stays_with, IsOfBody, Given, mismatch, At, TypeMismatch, IsClosing, Closes, IsSound, IsDecided, IsAwaited, AskedIsKept, AskedIsDecided, closed_mismatch, closed_mismatches, closed_table, found_under, same_types, is_fine_head, HasFineHeads, IsFine, AreFinePairs, InferenceContext, OnlyBinds, waiting_at, with_table, noted, IsTold}
+use Rattle.hir_types.specs.Own.{IsClosed, hole_const, const_term, const_folded, with_holes, replaced_var, replaced_int_var, term_at, terms, ty_step, in_ty, Const, AliasBound, GenericArg, TraitRef}
+use Rattle.hir_types.specs.declared.ty.Ty.{Ty-F, out-Ty, roll-Ty, roll-out-Ty}
+use Rattle.hir_types.specs.declared.ty.Const.TheVariants as const
+use Rattle.infer_coerce.specs.Words.{IntegerTy, term, IsInt, hole, terms_of, open_term, holds_hole, type_of_resolved, integer_type, Hole, Ty, Assignment, composed, folded, ExprId, IsCarriedType, carried_error, Scope, fallback, completion, whole, IsMadeOf, BindsTypesOf, made_of_resolved, unified_makes_same, refused_apart, binds_only_unified, resolution, resolution_terms, IsOpenOrKnown, Respects, Solves, State, bindings, Meets, AreUnified, AreRefused, AreUnifiedIf, Grew, TakesFirstKnown, TakesKnown, resolved_type, resolved_term, is_type_hole, with_waiting, waiting, Waiting, with_pair, is_taken, WaitingPair, Substitution, stays_with, IsOfBody, Given, mismatch, At, TypeMismatch, IsClosing, Closes, IsSound, IsDecided, IsAwaited, AskedIsKept, AskedIsDecided, closed_mismatch, closed_mismatches, closed_table, found_under, same_types, is_fine_head, HasFineHeads, IsFine, AreFinePairs, InferenceContext, OnlyBinds, waiting_at, with_table, noted, IsTold}
 use Rattle.hir_types.specs.declared.ty.IntegerTy.TheVariants.{Int, Uint}
 use Rattle.hir_types.specs.declared.head.Hole.TheVariants as hole_of
 use Rattle.hir_types.specs.declared.ty.IntTy.TheVariants as int
 use Rattle.hir_types.specs.declared.head.Head.TheVariants as head
 use Rattle.hir_types.specs.declared.ty.Ty.TheVariants as ty
 use Rattle.hir_types.specs.declared.ids.ExprOrPatId.TheVariants as node
-use Rattle.infer_coerce.proofs.Words.{ty_decides, left_from-push, grew_twice, hole_where_open, is_var_at, front_itself, get_last, CarriedCases, over_carried, fine_closed, same_closed, apart_closed, closing_respects, kept_later, closes_same, decided_later, mismatch_under, of_body_mismatch, sound_mismatch, asked-same, asked-apart, table_fine_grown, seen_fine_grown, fine_pairs_grown, fine_asked_grown, fine_no_alias, fine_grown, told_same, told_beside, follows_itself, follows_twice, closes_before, noted-cases}
+use Rattle.infer_coerce.proofs.Words.{ty_decides, left_from-push, grew_twice, hole_where_open, is_var_at, front_itself, get_last, heads_var, heads_int_var, fine_closed, same_closed, apart_closed, closing_respects, kept_later, closes_same, decided_later, mismatch_under, of_body_mismatch, sound_mismatch, asked-same, asked-apart, table_fine_grown, seen_fine_grown, fine_pairs_grown, fine_asked_grown, fine_no_alias, fine_grown, told_same, told_beside, follows_itself, follows_twice, closes_before, noted-cases}
 use Rattle.infer_coerce.specs.Words.infer_table.Solutions.{log_of}
 use Rattle.infer_ctx.specs.Context.{with_mismatch}
 use Rattle.infer_ctx.specs.Found as found
 use Rattle.infer_coerce.specs.Own.{SameOrDiffer, IsUnifiedIf, UnifiesFirst, UnifiesNext, IsCoercion, IsCoerced, IsCoercedOrNot, MayWait, Coerced, NotCoercible}
 
 -- ---- the completion of holes closes the context
-integer_of : CarriedCases (λ t. IsInt (term t) → (i : IntegerTy) × (t ≡ integer_type i))
-integer_of = record {
-  bool = λ h. absurd (subst IsInt term_bool h);
-  char = λ h. absurd (subst IsInt term_char h);
-  int = λ i h. (Int i, refl);
-  uint = λ i h. (Uint i, refl);
-  error = λ h. absurd (subst IsInt term_error h);
-  tuple = λ ts all h. absurd (subst IsInt (term_tuple ts) h);
-  adt = λ id ts all h. absurd (subst IsInt (term_adt_types id ts) h);
-  fn_def = λ id ts all h. absurd (subst IsInt (term_fn_def_types id ts) h);
-  param = λ n h. absurd (subst IsInt (term_param n) h);
-  associated = λ id ts all h. absurd (subst IsInt (term_associated_types id ts) h);
-}
+
+-- an integer type, or a hole for one
+integer_at : (x : Ty-F GenericArg Ty AliasBound TraitRef) → IsInt (ty_step (in_ty terms x)) → IsClosed (roll-Ty x) → (i : IntegerTy) × (roll-Ty x ≡ integer_type i)
+integer_at (Ty-F.Int i) h c = (Int i, ty.rolls-Int i)
+integer_at (Ty-F.Uint i) h c = (Uint i, ty.rolls-Uint i)
+integer_at (Ty-F.IntVar n) h c = absurd (true≢false (sym (open_term (roll-Ty (Ty-F.IntVar n)) ∙ ap holds_hole (term_at (Ty-F.IntVar n))) ∙ c))
+integer_at x h c = absurd h
+
+integer_of : (t : Ty) → IsCarriedType t → IsInt (term t) → (i : IntegerTy) × (t ≡ integer_type i)
+integer_of t carried int =
+    let same = roll-out-Ty t in
+    let q = integer_at (out-Ty t) (subst IsInt (term_at (out-Ty t)) (subst (λ (u : Ty). IsInt (term u)) (sym same) int)) (subst IsClosed (sym same) carried.closed) in
+    (q.0, sym same ∙ q.1)
 
 module _ (sc : Scope) (state : State) (h : BindsTypesOf (is_fine_head sc) (bindings state)) where
+  pub bound_var : (n : ℕ) → HasFineHeads sc ((resolution (bindings state)).var n)
+  bound_var n = subst (HasFineHeads sc) (replaced_var (with_holes (resolution (bindings state))) n) (type_of_resolved (is_fine_head sc) state (ty.Var n) h (heads_var sc n))
+
+  pub bound_int_var : (n : ℕ) → HasFineHeads sc ((resolution (bindings state)).int_var n)
+  bound_int_var n = subst (HasFineHeads sc) (replaced_int_var (with_holes (resolution (bindings state))) n) (type_of_resolved (is_fine_head sc) state (ty.IntVar n) h (heads_int_var sc n))
+
+  -- what stands for each hole, as a term
   pub bound_heads : (k : Hole) → IsMadeOf (is_fine_head sc) whole (terms_of (resolution (bindings state)) k)
-  bound_heads k = subst (λ t. IsMadeOf (is_fine_head sc) whole t) (sym (resolution_terms (bindings state) k)) (made_of_resolved (is_fine_head sc) (log_of (bindings state)) (hole k) h tt)
+  bound_heads k = subst (λ t. IsMadeOf (is_fine_head sc) whole t) (sym (resolution_terms (bindings state) k)) (made_of_resolved (is_fine_head sc) (log_of (bindings state)) (hole k) h.made tt)
 
   -- carried types for the holes that are open
   module _ (a : Assignment) (closing : IsClosing a) where
     completed_carried : (t : Ty) → HasFineHeads sc t → IsCarriedType (folded a t)
     completed_carried t k = fine_closed sc a t closing k
 
+    completed_const : (c : Const) → IsMadeOf (is_fine_head sc) whole (const_term c) → hole_const (const_folded a c) ≡ false
+    completed_const (const.Value n) k = refl
+    completed_const (const.Param n) k = refl
+    completed_const const.Unknown k = refl
+    completed_const (const.Var n) k = closing.const_var n
+    completed_const const.Hole k = absurd (true≢false (sym k.0))
+
     pub composed_closing : Respects (terms_of (composed a (resolution (bindings state)))) → IsClosing (composed a (resolution (bindings state)))
     composed_closing r = record {
-      var = λ n. completed_carried ((resolution (bindings state)).var n) (bound_heads (hole_of.Ty n));
+      var = λ n. completed_carried ((resolution (bindings state)).var n) (bound_var n);
       int_var = λ n.
           let t : Ty = (composed a (resolution (bindings state))).int_var n in
-          let k : IsCarriedType t = completed_carried ((resolution (bindings state)).int_var n) (bound_heads (hole_of.Int n)) in
-          over_carried (λ t. IsInt (term t) → (i : IntegerTy) × (t ≡ integer_type i)) integer_of t k (r (hole_of.Int n) tt);
+          let k : IsCarriedType t = completed_carried ((resolution (bindings state)).int_var n) (bound_int_var n) in
+          integer_of t k (r (hole_of.Int n) tt);
+      const_var = λ n. completed_const ((resolution (bindings state)).const_var n) (bound_heads (hole_of.Const n));
     }
 
   pub completion_closing : Respects (terms_of (completion state)) → IsClosing (completion state)
-  completion_closing r = composed_closing fallback (record { var = λ n. carried_error; int_var = λ n. (Int int.I32, refl) }) r
+  completion_closing r = composed_closing fallback (record { var = λ n. carried_error; int_var = λ n. (Int int.I32, refl); const_var = λ n. refl }) r
 
 pub completion_closes : (sc : Scope) (c : InferenceContext) → IsSound sc c → Meets (terms_of (completion c.goals.table)) c.goals.table → Respects (terms_of (completion c.goals.table)) → Closes (completion c.goals.table) c
 completion_closes sc c s m r = record { closing = completion_closing sc c.goals.table s.bound r; meets = m }
@@ -58,7 +76,7 @@ module _ (sc : Scope) (c : InferenceContext) (t u : Ty) (s : IsSound sc c) (ft :
   -- what is known of the context goes on to hold
   unified_sound : (after : State) → AreUnified c.goals.table after t u → Meets (terms_of (completion after)) after → Respects (terms_of (completion after)) → IsSound sc (with_table c after)
   unified_sound after k m r =
-      let bound = binds_only_unified (is_fine_head sc) (fine_no_alias sc) head.Bool refl c.goals.table after t u k (terms_of (completion after)) m s.bound ft.heads fu.heads in
+      let bound = binds_only_unified (is_fine_head sc) (fine_no_alias sc) head.Bool refl c.goals.table after t u k (terms_of (completion after)) m s.bound ft.heads.made fu.heads.made in
       record {
         fine = table_fine_grown sc c.goals.table after c.result k.grown s.fine;
         seen = seen_fine_grown sc c.goals.table after c.result k.grown s.seen;
@@ -71,11 +89,11 @@ module _ (sc : Scope) (c : InferenceContext) (t u : Ty) (s : IsSound sc c) (ft :
 
   -- the two are the same under each assignment from then on
   unified_closed : (after : State) → AreUnified c.goals.table after t u → (a : Assignment) → Closes a (with_table c after) → folded a t ≡ folded a u
-  unified_closed after k a q = same_closed sc a t u q.closing ft.heads fu.heads (unified_makes_same (is_fine_head sc) c.goals.table after t u (fine_no_alias sc) s.bound ft.heads fu.heads k (terms_of a) q.meets)
+  unified_closed after k a q = same_closed sc a t u q.closing ft.heads fu.heads (unified_makes_same (is_fine_head sc) c.goals.table after t u (fine_no_alias sc) s.bound ft.heads.made fu.heads.made k (terms_of a) q.meets)
 
   -- they are the same under none
   refused_closed : (after : State) → AreRefused c.goals.table after t u → (a : Assignment) → Closes a c → folded a t ≡ folded a u → ⊥
-  refused_closed after k a q same = refused_apart (is_fine_head sc) c.goals.table t u (fine_no_alias sc) s.bound ft.heads fu.heads k.impossible (terms_of a) (closing_respects a q.closing) q.meets (apart_closed a t u same)
+  refused_closed after k a q same = refused_apart (is_fine_head sc) c.goals.table t u (fine_no_alias sc) s.bound ft.heads.made fu.heads.made k.impossible (terms_of a) (closing_respects a q.closing) q.meets (apart_closed a t u same)
 
 -- nothing is found out
 pub binds_nothing : (g : Given) (c : InferenceContext) → IsOfBody g.body c.result → IsSound g.scope c → OnlyBinds g c c

@@ -16,15 +16,16 @@ pub use Rattle.infer_ctx.proofs.Carried.{carried_expr}
 pub use Rattle.infer_ctx.proofs.Category.{walks_paid, walks_refl, walks_trans}
 pub use Rattle.infer_ctx.proofs.Expected.{IsOfLayer, alternatives_less, arms_less, kind_for_any, read_alike, within_for_any}
 pub use Rattle.infer_ctx.proofs.Expressions.{comes_within, own_done, told_entered}
-pub use Rattle.infer_ctx.proofs.FineTypes.{all_fine_grown, every_at, every_from, every_same, fine_adt, fine_asked_grown, fine_bool, fine_element, fine_elements, fine_expectation_grown, fine_fn_args, fine_fn_def, fine_grown, fine_hole, fine_int_hole, fine_integer, fine_no_alias, fine_pairs_grown, fine_part, fine_push, fine_tuple, fine_unit, heads_adt, heads_associated, heads_bool, heads_char, heads_fn_def, heads_integer, heads_param, heads_tuple, seen_fine_grown, table_fine_grown}
+pub use Rattle.infer_ctx.proofs.Bare.{bare_associated, bare_adt, bare_bool, bare_char, bare_fn_def, bare_integer, bare_param, bare_tuple, first_bare}
+pub use Rattle.infer_ctx.proofs.FineTypes.{all_fine_grown, every_at, every_from, every_same, fine_adt, fine_asked_grown, fine_bool, fine_element, fine_elements, fine_expectation_grown, fine_fn_args, fine_fn_def, fine_grown, fine_hole, fine_int_hole, fine_integer, fine_no_alias, fine_pairs_grown, fine_part, fine_push, fine_tuple, fine_unit, heads_adt, heads_associated, heads_bool, heads_char, heads_fn_def, heads_int_var, heads_integer, heads_param, heads_tuple, heads_var, seen_fine_grown, table_fine_grown}
 pub use Rattle.infer_ctx.proofs.InParts.{AtPart, WalksParts, all_past, begins_parts, binds_on, comes_to, comes_to_part, expr_at, goes_past, goes_past_coerced, goes_past_own, past_coerced_part, past_own_part}
-pub use Rattle.infer_ctx.proofs.Instances.{fine_instance, fine_instances, instances_under, known_instance}
+pub use Rattle.infer_ctx.proofs.Instances.{fine_instance, fine_instances, heads_at_args, instances_under, known_instance}
 pub use Rattle.infer_ctx.proofs.Items.{item_with, named_function, named_variant, signature_count, tuple_signature, variant_with}
 pub use Rattle.infer_ctx.proofs.Keeps.{all_kept, all_pats_kept, alternative_kept, any_kept, args_kept, arm_patterns_kept, arms_kept, at_kept, callee_kept, declared_kept, demand_kept, diagnostic_kept, extends_refl, extends_trans, guard_kept, hole_at, incoming_kept, is_at_kept, misfit_kept, obeys_kept, pat_at_kept, pat_kept, pat_of_kept, pat_truth_kept, recorded_kept, seen_as_entered, seen_as_kept, stmts_kept, tail_kept, true_seen_kept}
 pub use Rattle.infer_ctx.proofs.Leaves.{leaf_done, literal_done, rule_of}
 pub use Rattle.infer_ctx.proofs.Lists.{At-put, At-set, At-set_cases, drop-step, found, length-noted, length-own_set, lt_or_ge, noted-cases, noted-keeps, noted-some, own_set, own_set-at, own_set-cases, own_set-other, put-cases, put-here, same_or_not, slice_get-append_left, slice_get-push, slice_get-set_other, slice_get-set_same, take_next}
 pub use Rattle.infer_ctx.proofs.Noted.{noted_extends, noted_has, noted_walks}
-pub use Rattle.infer_ctx.proofs.OverTypes.{CarriedCases, adt_closed, apart_closed, associated_closed, carried_args, carried_closed, carried_fine, closing_respects, expected_closed, fine_closed, fine_later, fn_def_closed, over_carried, over_fine, same_closed}
+pub use Rattle.infer_ctx.proofs.OverTypes.{AreTypesWith, fine_adt_args, fine_item_args, adt_closed, apart_closed, associated_closed, carried_args, carried_closed, carried_fine, closing_bare, closing_respects, expected_closed, fine_closed, fine_later, fn_def_closed, over_fine, over_made, same_closed}
 pub use Rattle.infer_ctx.proofs.OwnRecord.{close}
 pub use Rattle.infer_ctx.proofs.Parts.{after_append, ahead_left, ahead_rest, ahead_right, ahead_stands, ahead_start, all_push, binding_id, binds_within, expr_ahead, expr_before, expr_id, expr_is_no_pat, one_pat, pat_ahead, pat_id}
 pub use Rattle.infer_ctx.proofs.Said.{length-said_of, said-cases, said_of-cases, said_of-keeps, said_of-own}

@@ -77,3 +77,18 @@ fn_args_bare id ts h =
     ∙ (ap (λ xs. roll-Ty (Ty-F.FnDef id xs)) (args_erased ts) ∙ ty.rolls-FnDef id (type_args (map erased ts)))) in
     let same = (fn_def_tells id id (type_args (map erased ts)) (type_args ts) (sym rolled ∙ h)).1 in
     sym (types_back (map erased ts)) ∙ (ap (map (λ x. arg_as_type (out-GenericArg x))) same ∙ types_back ts)
+
+pub adt_args_bare : (id : AdtId) (ts : List Ty) → HasNoLabel (ty.Adt id (type_args ts)) → map erased ts ≡ ts
+adt_args_bare id ts h =
+    let rolled : erased (ty.Adt id (type_args ts)) ≡ roll-Ty (Ty-F.Adt id (type_args (map erased ts))) =
+    ap erased (sym (ty.rolls-Adt id (type_args ts))) ∙ ((folds_follow erased_steps).ty (Ty-F.Adt id (type_args ts))
+    ∙ ap (λ xs. roll-Ty (Ty-F.Adt id xs)) (args_erased ts)) in
+    let layers : Ty-F.Adt id (type_args (map erased ts)) ≡ Ty-F.Adt id (type_args ts) =
+    sym (out-roll-Ty (Ty-F.Adt id (type_args (map erased ts)))) ∙ (ap out-Ty (sym rolled ∙ (h ∙ sym (ty.rolls-Adt id (type_args ts))))
+    ∙ out-roll-Ty (Ty-F.Adt id (type_args ts))) in
+    let same : type_args (map erased ts) ≡ type_args ts = cc in
+    sym (types_back (map erased ts)) ∙ (ap (map (λ x. arg_as_type (out-GenericArg x))) same ∙ types_back ts)
+
+-- each of them has none
+pub first_bare : (t : Ty) (ts : List Ty) → map erased (t ∷ ts) ≡ t ∷ ts → HasNoLabel t × (map erased ts ≡ ts)
+first_bare t ts h = (cc, cc)

@@ -154,18 +154,24 @@ module _ (sc : Scope) where
   fine_push state [] t h k = (k, tt)
   fine_push state (u ∷ ts) t h k = (h.0, fine_push state ts t h.1 k)
 
+  pub heads_var : (n : ℕ) → HasFineHeads sc (ty.Var n)
+  heads_var n = record { made = subst Made (sym (term_var n)) tt; bare = bare_var n }
+
+  pub heads_int_var : (n : ℕ) → HasFineHeads sc (ty.IntVar n)
+  heads_int_var n = record { made = subst Made (sym (term_int_var n)) tt; bare = bare_int_var n }
+
   pub fine_hole : (state : State) → IsFine sc (with_new_hole state kind.Ty) (ty.Var (hole_count state))
   fine_hole state = record {
     holes = (let P : Term → Type 0 = AreOf (state.substitution.kinds ++ kind.Ty ∷ []) in
         subst P (sym (term_var (hole_count state))) (are_of_hole (state.substitution.kinds ++ kind.Ty ∷ []) (hole_of.Ty (hole_count state)) (get_last state.substitution.kinds kind.Ty)));
-    heads = record { made = subst Made (sym (term_var (hole_count state))) tt; bare = bare_var (hole_count state) };
+    heads = heads_var (hole_count state);
   }
 
   pub fine_int_hole : (state : State) → IsFine sc (with_new_hole state kind.Int) (ty.IntVar (hole_count state))
   fine_int_hole state = record {
     holes = (let P : Term → Type 0 = AreOf (state.substitution.kinds ++ kind.Int ∷ []) in
         subst P (sym (term_int_var (hole_count state))) (are_of_hole (state.substitution.kinds ++ kind.Int ∷ []) (hole_of.Int (hole_count state)) (get_last state.substitution.kinds kind.Int)));
-    heads = record { made = subst Made (sym (term_int_var (hole_count state))) tt; bare = bare_int_var (hole_count state) };
+    heads = heads_int_var (hole_count state);
   }
 
   -- ---- parts of fine types

@@ -2,12 +2,13 @@
 use Rattle.std.specs.Prelude.{nat_lt}
 use Rattle.std.specs.Cmp.{first_so, second_so}
 use Rattle.std.proofs.Common.{◌≡◌, List, Option, Some, None, refl, [], ◌∷◌, ◌++◌, ℕ, zero, suc, length, Bool, true, false, IsTrue, sym, ap, ap₂, subst, ◌∙◌, true≢false, map, ◌&&◌, ◌||◌}
-use Rattle.hir_types.specs.Own.{hole_const, hole, leaf, pair, Const, const_term, const_part, parts_of_types, folded_agree, folded_itself, each_itself, occurs}
+use Rattle.hir_types.specs.Own.{hole_const, hole, leaf, pair, Const, const_term, const_part, parts_of_types, folded_agree, folded_itself, each_itself, occurs, erased, term_adt, term_fn_def}
+use Rattle.hir_types.specs.declared.ty.GenericArg.{out-GenericArg, roll-out-GenericArg}
 use Rattle.hir_types.specs.declared.head.Head.{Head}
 use Rattle.hir_types.specs.declared.head.Hole.{Hole}
 use Rattle.hir_types.specs.declared.ty.Const.TheVariants as const
 use Rattle.infer_ctx.specs.Words.infer_table.Preserved.{IsHead}
-use Rattle.infer_ctx.specs.Words.{AliasBound, TraitRef, GenericArg, GenericArg-F, map-GenericArg, roll-GenericArg, Ty, Ty-F, map-Ty, ind-Ty, roll-Ty, AdtId, CallableDefId, IntTy, UintTy, in_ty, Term, chain, type_part, term, arg_term, ty_step, apply, terms_of, IsInt, terms, term_at, arg_term_at, term_adt_types, term_fn_def_types, term_folded, term_int, term_uint, term_associated_types, replaced_adt, replaced_fn_def, replaced_associated_type, types_args_folded, Assignment, with_holes, folded, IntegerTy, integer_type, type_args, Scope, adt_params, has_params, alias_params, IsCarriedType, AreCarriedTypes, AreCarriedArgs, carried_type_arg, carried_integer, holds_hole, none_occurs, open_term, same_terms, folded_bare, AssignsNoLabel, all_types, has_types, takes_types, mark_of, marks, IsMark, IsPartMark, IsEnd, TermRole, whole, part, rest, IsMadeOf, Respects, State, HolesAreOf, TypeAliasId}
+use Rattle.infer_ctx.specs.Words.{AliasBound, TraitRef, GenericArg, GenericArg-F, map-GenericArg, roll-GenericArg, Ty, Ty-F, map-Ty, ind-Ty, roll-Ty, AdtId, CallableDefId, IntTy, UintTy, in_ty, Term, chain, type_part, term, arg_term, ty_step, apply, terms_of, IsInt, terms, term_at, arg_term_at, term_adt_types, term_fn_def_types, term_folded, term_int, term_uint, term_associated_types, replaced_adt, replaced_fn_def, replaced_associated_type, types_args_folded, Assignment, with_holes, folded, IntegerTy, integer_type, type_args, Scope, adt_params, has_params, alias_params, IsCarriedType, AreCarriedTypes, AreCarriedArgs, carried_type_arg, carried_integer, holds_hole, none_occurs, open_term, same_terms, folded_bare, AssignsNoLabel, HasNoLabel, all_types, has_types, takes_types, mark_of, marks, IsMark, IsPartMark, IsEnd, TermRole, whole, part, rest, IsMadeOf, Respects, State, HolesAreOf, TypeAliasId}
 use Rattle.hir_types.specs.declared.ty.GenericArg.TheVariants as arg
 use Rattle.hir_types.specs.declared.ty.Ty.TheVariants as ty
 use Rattle.hir_types.specs.declared.ty.IntegerTy.TheVariants as integer
@@ -15,6 +16,7 @@ use Rattle.hir_types.specs.declared.head.Hole.TheVariants as hole_of
 use Rattle.hir_types.specs.declared.head.Head.TheVariants as head
 use Rattle.infer_ctx.specs.Own.{IsFineExpectation, item_params, is_fine_head, is_later_head, HasFineHeads, IsFine, Every, IsClosing, expected_under, IsCarriedExpectation}
 use Rattle.infer_ctx.proofs.FineTypes.{taken_types}
+use Rattle.infer_ctx.proofs.Bare.{adt_args_bare, fn_args_bare, first_bare}
 
 abbrev AnyBound : Type 0
 AnyBound = AliasBound × Unit {0}
@@ -27,10 +29,10 @@ abbrev IsTypeWith : (Ty → Type 0) → GenericArg → Type 0
 IsTypeWith P x = (t : Ty) × (x ≡ arg.Ty t) × P t
 
 -- all of them are
-record AreTypesWith (P : Ty → Type 0) (xs : List GenericArg) : Type 0 where
-  types : List Ty
-  are : xs ≡ type_args types
-  each : Every P types
+pub record AreTypesWith (P : Ty → Type 0) (xs : List GenericArg) : Type 0 where
+  pub types : List Ty
+  pub are : xs ≡ type_args types
+  pub each : Every P types
 
 no_types : (P : Ty → Type 0) → AreTypesWith P []
 no_types P = record { types = []; are = refl; each = tt }
@@ -185,6 +187,49 @@ module _ (sc : Scope) (P : Ty → Type 0) (plain : sc.later ≡ false) (cases : 
 
   pub over_fine : (t : Ty) → HasFineHeads sc t → P t
   over_fine t h = over_made t h.made
+
+-- ---- the arguments of fine types
+
+module _ (sc : Scope) where
+  -- arguments that are types alone
+  arg_is_type : (x : GenericArg) (y : GenericArg-F GenericArg Ty AliasBound TraitRef) → roll-GenericArg y ≡ x → is_type_mark (mark_of (arg_term x)) ≡ true → IsMadeOf (is_fine_head sc) part (arg_term x) → IsTypeWith (λ t. IsMadeOf (is_fine_head sc) whole (term t)) x
+  arg_is_type x (GenericArg-F.Ty t) is type h =
+      let Q : Term → Type 0 = IsMadeOf (is_fine_head sc) part in
+      (t, sym is ∙ arg.rolls-Ty t, (subst Q (ap arg_term (sym is) ∙ arg_term_at (GenericArg-F.Ty t)) h).1)
+  arg_is_type x (GenericArg-F.Const c) is type h =
+      absurd (true≢false (sym type ∙ ap (λ (u : Term). is_type_mark (mark_of u)) (ap arg_term (sym is) ∙ arg_term_at (GenericArg-F.Const c))))
+
+  args_are_types : (xs : List GenericArg) → all_types (marks (chain (map arg_term xs))) ≡ true → IsMadeOf (is_fine_head sc) rest (chain (map arg_term xs)) → AreTypesWith (λ t. IsMadeOf (is_fine_head sc) whole (term t)) xs
+  args_are_types [] types h = no_types (λ t. IsMadeOf (is_fine_head sc) whole (term t))
+  args_are_types (x ∷ xs) types h =
+      let P : Ty → Type 0 = λ t. IsMadeOf (is_fine_head sc) whole (term t) in
+      let split = first_is_type (mark_of (arg_term x)) (marks (chain (map arg_term xs))) types in
+      one_more_type P x xs (arg_is_type x (out-GenericArg x) (roll-out-GenericArg x) split.0 h.0) (args_are_types xs split.1 h.1)
+
+  with_labels : (ts : List Ty) → Every (λ t. IsMadeOf (is_fine_head sc) whole (term t)) ts → map erased ts ≡ ts → Every (HasFineHeads sc) ts
+  with_labels [] h none = tt
+  with_labels (t ∷ ts) h none = (let q = first_bare t ts none in (record { made = h.0; bare = q.0 }, with_labels ts h.1 q.1))
+
+  -- those of an adt and of an item are fine types
+  pub fine_adt_args : (id : AdtId) (xs : List GenericArg) → HasFineHeads sc (ty.Adt id xs) → AreTypesWith (HasFineHeads sc) xs
+  fine_adt_args id xs h =
+      let made = subst (IsMadeOf (is_fine_head sc) whole) (term_adt id xs) h.made in
+      let are = args_are_types xs (taken_alone (adt_params sc.facts id) (marks (chain (map arg_term xs))) made.0) made.1 in
+      record {
+        types = are.types;
+        are = are.are;
+        each = with_labels are.types are.each (adt_args_bare id are.types (subst (λ ys. HasNoLabel (ty.Adt id ys)) are.are h.bare));
+      }
+
+  pub fine_item_args : (id : CallableDefId) (xs : List GenericArg) → HasFineHeads sc (ty.FnDef id xs) → AreTypesWith (HasFineHeads sc) xs
+  fine_item_args id xs h =
+      let made = subst (IsMadeOf (is_fine_head sc) whole) (term_fn_def id xs) h.made in
+      let are = args_are_types xs (taken_alone (item_params sc.facts id) (marks (chain (map arg_term xs))) made.0) made.1 in
+      record {
+        types = are.types;
+        are = are.are;
+        each = with_labels are.types are.each (fn_args_bare id are.types (subst (λ ys. HasNoLabel (ty.FnDef id ys)) are.are h.bare));
+      }
 
 -- ---- what fine types come to
 

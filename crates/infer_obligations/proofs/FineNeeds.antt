@@ -3,17 +3,18 @@ use Rattle.std.specs.Prelude.{◌≡◌, ◌≤◌, ◌+◌, ◌⊎◌, ℕ, suc
 use Rattle.std.specs.Option.{option_and_then}
 use Rattle.std.proofs.Common.{arith, inl, inr, sym, ap, ◌∙◌, subst}
 use Rattle.std.proofs.lemmas.List.{length-map}
-use Rattle.infer_obligations.specs.Words.{CallableDefId, ExprId, FunctionId, VariantId, AdtId, GenericArg, Ty, Ty-F, out-Ty, out-roll-Ty, replaced_bool, replaced_char, replaced_int, replaced_uint, replaced_tuple, replaced_param, Assignment, folded, with_holes, term_var, term_int_var, RawAdt, RawCtor, RawExpr, RawFn, RawGoal, RawPath, RawType, RawVariant, RawFacts, fn_aliases, variant_aliases, Scope, adt_params, count_or_none, fn_arity, variant_arity, type_args, ctor_type_by, IsLawful, Shape, whole, IsMadeOf, Asked, Each, goal_at, preds_or_none, HasHeadsIfConcrete, Outermost, other, HasHead, outermost_step, of_function, of_ctor, PathRule, alias_goals_by, alias_goals_from, fn_alias_goals, variant_alias_goals, path_alias_goals, alias_goals, variant_preds, path_preds, expr_preds, item_args, needed_goals, Given, at_or_mismatch, HasTy, InferenceResult, is_fine_head, HasFineHeads, Every, Tells, IsVariant, TypeAliasId}
+use Rattle.infer_obligations.specs.Words.{CallableDefId, ExprId, FunctionId, VariantId, AdtId, GenericArg, Ty, Ty-F, out-Ty, out-roll-Ty, Assignment, folded, with_holes, RawAdt, RawCtor, RawExpr, RawFn, RawGoal, RawPath, RawType, RawVariant, RawFacts, fn_aliases, variant_aliases, Scope, adt_params, count_or_none, fn_arity, variant_arity, type_args, ctor_type_by, IsLawful, Shape, Asked, Each, goal_at, preds_or_none, HasHeadsIfConcrete, Outermost, other, HasHead, outermost_step, of_function, of_ctor, PathRule, alias_goals_by, alias_goals_from, fn_alias_goals, variant_alias_goals, path_alias_goals, alias_goals, variant_preds, path_preds, expr_preds, item_args, needed_goals, Given, at_or_mismatch, HasTy, InferenceResult, is_fine_head, HasFineHeads, Every, Tells, IsVariant}
 use Rattle.hir_types.specs.declared.ids.CallableDefId.TheVariants as callable
 use Rattle.hir_types.specs.declared.head.Head.TheVariants as head
-use Rattle.hir_types.specs.declared.ty.IntegerTy.TheVariants as integer
 use Rattle.hir_types.specs.declared.ty.GenericArg.TheVariants as arg
 use Rattle.hir_types.specs.declared.ty.Ty.TheVariants as ty
 use Rattle.infer_obligations.specs.Words.hir_raw.declared.raw.RawCtor.TheVariants as ctor
 use Rattle.infer_obligations.specs.Words.hir_raw.declared.raw.RawExpr.TheVariants as expr
 use Rattle.infer_obligations.specs.Words.hir_raw.declared.raw.RawPath.TheVariants as path
 use Rattle.infer_obligations.specs.Words.hir_raw.declared.raw.RawType.TheVariants as type
-use Rattle.infer_obligations.proofs.Words.{each_append, heads_bool, heads_char, heads_integer, heads_param, heads_tuple, heads_adt, heads_fn_def, heads_associated, over_fine, adt_closed, fn_def_closed}
+use Rattle.hir_types.specs.Own.{at_ty, in_ty, replacing, const_folded, AliasBound, TraitRef}
+use Rattle.hir_types.specs.declared.ty.Ty.{roll-Ty, roll-out-Ty}
+use Rattle.infer_obligations.proofs.Words.{each_append, fine_adt_args, fine_item_args, adt_closed, fn_def_closed}
 use Rattle.infer_obligations.specs.Words.infer_result.Rules.{Rule}
 use Rattle.infer_obligations.proofs.FineSources.{GoalIsFit, fit_more, goal_has_heads, fn_preds_fit, adt_preds_fit}
 
@@ -22,33 +23,6 @@ use Rattle.infer_obligations.proofs.FineSources.{GoalIsFit, fit_more, goal_has_h
 -- the arguments of the item of which this is the type
 abbrev args_of : Ty → List GenericArg
 args_of t = item_args (out-Ty t)
-
-no_args_bool : args_of ty.Bool ≡ []
-no_args_bool = ap item_args (ap out-Ty (sym ty.rolls-Bool) ∙ out-roll-Ty Ty-F.Bool)
-
-no_args_char : args_of ty.Char ≡ []
-no_args_char = ap item_args (ap out-Ty (sym ty.rolls-Char) ∙ out-roll-Ty Ty-F.Char)
-
-no_args_int : (i : _) → args_of (ty.Int i) ≡ []
-no_args_int i = ap item_args (ap out-Ty (sym (ty.rolls-Int i)) ∙ out-roll-Ty (Ty-F.Int i))
-
-no_args_uint : (i : _) → args_of (ty.Uint i) ≡ []
-no_args_uint i = ap item_args (ap out-Ty (sym (ty.rolls-Uint i)) ∙ out-roll-Ty (Ty-F.Uint i))
-
-no_args_var : (n : ℕ) → args_of (ty.Var n) ≡ []
-no_args_var n = ap item_args (ap out-Ty (sym (ty.rolls-Var n)) ∙ out-roll-Ty (Ty-F.Var n))
-
-no_args_int_var : (n : ℕ) → args_of (ty.IntVar n) ≡ []
-no_args_int_var n = ap item_args (ap out-Ty (sym (ty.rolls-IntVar n)) ∙ out-roll-Ty (Ty-F.IntVar n))
-
-no_args_tuple : (ts : List Ty) → args_of (ty.Tuple ts) ≡ []
-no_args_tuple ts = ap item_args (ap out-Ty (sym (ty.rolls-Tuple ts)) ∙ out-roll-Ty (Ty-F.Tuple ts))
-
-no_args_param : (n : ℕ) → args_of (ty.Param n) ≡ []
-no_args_param n = ap item_args (ap out-Ty (sym (ty.rolls-Param n)) ∙ out-roll-Ty (Ty-F.Param n))
-
-no_args_associated : (i : TypeAliasId) (xs : List GenericArg) → args_of (ty.AssociatedType i xs) ≡ []
-no_args_associated i xs = ap item_args (ap out-Ty (sym (ty.rolls-AssociatedType i xs)) ∙ out-roll-Ty (Ty-F.AssociatedType i xs))
 
 adt_args : (i : AdtId) (xs : List GenericArg) → args_of (ty.Adt i xs) ≡ xs
 adt_args i xs = ap item_args (ap out-Ty (sym (ty.rolls-Adt i xs)) ∙ out-roll-Ty (Ty-F.Adt i xs))
@@ -73,46 +47,65 @@ module _ (sc : Scope) (a : Assignment) where
     all : Every (HasFineHeads sc) types
     many : (h : Outermost) → HasHead t h → length (args_of (folded a t)) ≡ length types
 
-  without_args : (t u : Ty) → HasFineHeads sc t → args_of t ≡ [] → folded a t ≡ u → args_of u ≡ [] → HasFineArgs t
-  without_args t u heads own falls none = record { heads = heads; types = []; args = own; all = tt; many = λ h has. ap (λ v. length (args_of v)) falls ∙ ap length none }
-
-  -- one without a head
-  unknown_args : (t : Ty) → HasFineHeads sc t → args_of t ≡ [] → outermost_step (out-Ty t) ≡ None → HasFineArgs t
-  unknown_args t heads own none = record { heads = heads; types = []; args = own; all = tt; many = λ h has. (let clash : None ≡ Some h = sym none ∙ has in absurd (cc)) }
-
-  every_heads : (ts : List Ty) → Every HasFineArgs ts → Every (HasFineHeads sc) ts
-  every_heads [] h = tt
-  every_heads (t ∷ ts) h = (h.0.heads, every_heads ts h.1)
-
   as_many : (ts : List Ty) → length (type_args (map (folded a) ts)) ≡ length ts
   as_many ts = length-map (map (folded a) ts) arg.Ty ∙ length-map ts (folded a)
 
+  adt_has : (id : AdtId) (xs : List GenericArg) → HasFineHeads sc (ty.Adt id xs) → HasFineArgs (ty.Adt id xs)
+  adt_has id xs h =
+      let args = fine_adt_args sc id xs h in
+      let ts = args.types in
+      subst (λ ys. HasFineArgs (ty.Adt id ys)) (sym args.are) (record {
+        heads = subst (λ ys. HasFineHeads sc (ty.Adt id ys)) args.are h;
+        types = ts;
+        args = adt_args id (type_args ts);
+        all = args.each;
+        many = λ o has. ap (λ v. length (args_of v)) (adt_closed a id ts) ∙ (ap length (adt_args id (type_args (map (folded a) ts))) ∙ as_many ts);
+      })
+
+  item_has : (id : CallableDefId) (xs : List GenericArg) → HasFineHeads sc (ty.FnDef id xs) → HasFineArgs (ty.FnDef id xs)
+  item_has id xs h =
+      let args = fine_item_args sc id xs h in
+      let ts = args.types in
+      subst (λ ys. HasFineArgs (ty.FnDef id ys)) (sym args.are) (record {
+        heads = subst (λ ys. HasFineHeads sc (ty.FnDef id ys)) args.are h;
+        types = ts;
+        args = fn_def_args id (type_args ts);
+        all = args.each;
+        many = λ o has. ap (λ v. length (args_of v)) (fn_def_closed a id ts) ∙ (ap length (fn_def_args id (type_args (map (folded a) ts))) ∙ as_many ts);
+      })
+
+  -- one of which nothing outermost is known
+  unknown_has : (x : Ty-F GenericArg Ty AliasBound TraitRef) → item_args x ≡ [] → outermost_step x ≡ None → HasFineHeads sc (roll-Ty x) → HasFineArgs (roll-Ty x)
+  unknown_has x none unknown h = record {
+    heads = h;
+    types = [];
+    args = ap item_args (out-roll-Ty x) ∙ none;
+    all = tt;
+    many = λ o has. (let clash : None ≡ Some o = sym (ap outermost_step (out-roll-Ty x) ∙ unknown) ∙ has in absurd (cc));
+  }
+
+  -- one without arguments, whatever stands for its holes
+  bare_has : (x y : Ty-F GenericArg Ty AliasBound TraitRef) → item_args x ≡ [] → folded a (roll-Ty x) ≡ roll-Ty y → item_args y ≡ [] → HasFineHeads sc (roll-Ty x) → HasFineArgs (roll-Ty x)
+  bare_has x y none falls left h = record {
+    heads = h;
+    types = [];
+    args = ap item_args (out-roll-Ty x) ∙ none;
+    all = tt;
+    many = λ o has. ap (λ v. length (args_of v)) falls ∙ ap length (ap item_args (out-roll-Ty y) ∙ left);
+  }
+
+  layer_has : (x : Ty-F GenericArg Ty AliasBound TraitRef) → HasFineHeads sc (roll-Ty x) → HasFineArgs (roll-Ty x)
+  layer_has (Ty-F.Adt id xs) h = subst HasFineArgs (sym (ty.rolls-Adt id xs)) (adt_has id xs (subst (HasFineHeads sc) (ty.rolls-Adt id xs) h))
+  layer_has (Ty-F.FnDef id xs) h = subst HasFineArgs (sym (ty.rolls-FnDef id xs)) (item_has id xs (subst (HasFineHeads sc) (ty.rolls-FnDef id xs) h))
+  layer_has (Ty-F.Var n) h = unknown_has (Ty-F.Var n) refl refl h
+  layer_has (Ty-F.IntVar n) h = unknown_has (Ty-F.IntVar n) refl refl h
+  layer_has (Ty-F.Param n) h = bare_has (Ty-F.Param n) (Ty-F.Param n) refl (at_ty (with_holes a) (Ty-F.Param n) ∙ sym (ty.rolls-Param n)) refl h
+  layer_has (Ty-F.Array t c) h =
+      bare_has (Ty-F.Array t c) (Ty-F.Array (folded a t) (const_folded a c)) refl (at_ty (with_holes a) (Ty-F.Array t c) ∙ sym (ty.rolls-Array (folded a t) (const_folded a c))) refl h
+  layer_has x h = bare_has x (in_ty (replacing (with_holes a)) x) refl (at_ty (with_holes a) x) refl h
+
   fine_args : (t : Ty) → HasFineHeads sc t → HasFineArgs t
-  fine_args = over_fine sc HasFineArgs (record {
-    bool = without_args ty.Bool ty.Bool (heads_bool sc) no_args_bool (replaced_bool (with_holes a)) no_args_bool;
-    char = without_args ty.Char ty.Char (heads_char sc) no_args_char (replaced_char (with_holes a)) no_args_char;
-    int = λ i. without_args (ty.Int i) (ty.Int i) (heads_integer sc (integer.Int i)) (no_args_int i) (replaced_int (with_holes a) i) (no_args_int i);
-    uint = λ i. without_args (ty.Uint i) (ty.Uint i) (heads_integer sc (integer.Uint i)) (no_args_uint i) (replaced_uint (with_holes a) i) (no_args_uint i);
-    var = λ n. unknown_args (ty.Var n) (subst (IsMadeOf (is_fine_head sc) whole) (sym (term_var n)) tt) (no_args_var n) (ap outermost_step (ap out-Ty (sym (ty.rolls-Var n)) ∙ out-roll-Ty (Ty-F.Var n)));
-    int_var = λ n. unknown_args (ty.IntVar n) (subst (IsMadeOf (is_fine_head sc) whole) (sym (term_int_var n)) tt) (no_args_int_var n) (ap outermost_step (ap out-Ty (sym (ty.rolls-IntVar n)) ∙ out-roll-Ty (Ty-F.IntVar n)));
-    tuple = λ ts h. without_args (ty.Tuple ts) (ty.Tuple (map (folded a) ts)) (heads_tuple sc ts (every_heads ts h)) (no_args_tuple ts) (replaced_tuple (with_holes a) ts) (no_args_tuple (map (folded a) ts));
-    adt = λ id ts k h. record {
-      heads = heads_adt sc id ts k (every_heads ts h);
-      types = ts;
-      args = adt_args id (type_args ts);
-      all = every_heads ts h;
-      many = λ o has. ap (λ v. length (args_of v)) (adt_closed a id ts) ∙ (ap length (adt_args id (type_args (map (folded a) ts))) ∙ as_many ts);
-    };
-    fn_def = λ id ts k h. record {
-      heads = heads_fn_def sc id ts k (every_heads ts h);
-      types = ts;
-      args = fn_def_args id (type_args ts);
-      all = every_heads ts h;
-      many = λ o has. ap (λ v. length (args_of v)) (fn_def_closed a id ts) ∙ (ap length (fn_def_args id (type_args (map (folded a) ts))) ∙ as_many ts);
-    };
-    associated = λ id ts k h. unknown_args (ty.AssociatedType id (type_args ts)) (heads_associated sc id ts k (every_heads ts h)) (no_args_associated id (type_args ts)) (ap outermost_step (ap out-Ty (sym (ty.rolls-AssociatedType id (type_args ts))) ∙ out-roll-Ty (Ty-F.AssociatedType id (type_args ts))));
-    param = λ n k. without_args (ty.Param n) (ty.Param n) (heads_param sc n k) (no_args_param n) (replaced_param (with_holes a) n) (no_args_param n);
-  })
+  fine_args t h = subst HasFineArgs (roll-out-Ty t) (layer_has (out-Ty t) (subst (HasFineHeads sc) (sym (roll-out-Ty t)) h))
 
 -- ---- goals about associated types
 

@@ -4,7 +4,7 @@ use Rattle.std.specs.List.{range_with_len}
 use Rattle.std.proofs.Common.{inl, inr, sym, ap, ◌∙◌, subst, arith, true≢false}
 use Rattle.std.proofs.lemmas.Bool.{ltb-true, lt-ltb, or_cases, or_left, or_right}
 use Rattle.std.proofs.lemmas.List.{length-map}
-use Rattle.infer_obligations.specs.Words.{DefWithBodyId, FunctionId, GenericDefId, TraitId, TypeRefId, Hole, GenericArg, Ty, with_params, map_twice, param_at, types_args_replaced, replaced_bool, replaced_char, replaced_int, replaced_uint, replaced_var, replaced_int_var, replaced_tuple, replaced_adt, replaced_fn_def, replaced, Term, hole, leaf, pair, chain, apply, occurs, hole_number, type_part, term, term_var, term_int_var, RawAdt, RawAssocType, RawFn, RawGoal, RawImpl, RawTrait, RawTraitRef, RawType, RawBody, RawFacts, arg_types, Scope, adt_params, has_params, scope_of, count_or_none, types_scope, type_args, at_args, is_alias, type_parts, filled_within, written_type, AllHold, TraitRefExists, GoalExists, GoalsExist, TraitIdsExist, ImplIdsExist, HoldsProjection, is_one, IsNoProjection, TypeFits, GoalFits, AdtFits, TraitFits, ImplFits, ImplTraitFits, HasNoHole, params_in, wrongs_in, goal_uses, goals_uses, impl_uses, trait_ref_uses, fn_uses, variant_uses, abstract_uses, item_uses, body_of, IsLawful, adt_ids, fn_ids, fns_fit, holes_fit, In, in_first, in_last, in_flat, type_there, FitsUnder, fits_more, Shape, TermRole, whole, part, rest, IsMadeOf, width_apply, hole_eq_same, hole_eq_true, Kind, implements, projects, Asked, Rule, System, Each, key, Fill, IsNth, IsConcrete, IsTraitKind, holes, own_params, type_at, args_at, goal_at, preds_or_none, trait_preds, trait_holes, IsStated, IsSuper, impl_holes, impl_args, assoc_rule, rules_for, impl_rules, fact, IsSystemOf, HasHeadsIfConcrete, RuleHasHeadsOf, SystemHasHeadsOf, scope_item, is_fine_head, item_params, HasFineHeads, Every}
+use Rattle.infer_obligations.specs.Words.{DefWithBodyId, FunctionId, GenericDefId, TraitId, TypeRefId, Hole, GenericArg, Ty, with_params, map_twice, replaced, Term, hole, leaf, pair, chain, apply, occurs, hole_number, type_part, term, RawAdt, RawAssocType, RawFn, RawGoal, RawImpl, RawTrait, RawTraitRef, RawType, RawBody, RawFacts, arg_types, Scope, scope_of, count_or_none, types_scope, type_args, is_alias, type_parts, filled_within, written_type, AllHold, TraitRefExists, GoalExists, GoalsExist, TraitIdsExist, ImplIdsExist, HoldsProjection, is_one, IsNoProjection, TypeFits, GoalFits, AdtFits, TraitFits, ImplFits, ImplTraitFits, HasNoHole, params_in, wrongs_in, goal_uses, goals_uses, impl_uses, trait_ref_uses, fn_uses, variant_uses, abstract_uses, item_uses, body_of, IsLawful, adt_ids, fn_ids, fns_fit, holes_fit, In, in_first, in_last, in_flat, type_there, FitsUnder, fits_more, Shape, TermRole, whole, part, rest, IsMadeOf, marks_apply, hole_eq_same, hole_eq_true, Kind, implements, projects, Asked, Rule, System, Each, key, Fill, IsNth, IsConcrete, IsTraitKind, holes, own_params, type_at, args_at, goal_at, preds_or_none, trait_preds, trait_holes, IsStated, IsSuper, impl_holes, impl_args, assoc_rule, rules_for, impl_rules, fact, IsSystemOf, HasHeadsIfConcrete, RuleHasHeadsOf, SystemHasHeadsOf, scope_item, is_fine_head, item_params, HasFineHeads, Every}
 use Rattle.hir_types.specs.declared.ids.DefWithBodyId.TheVariants as def
 use Rattle.hir_types.specs.declared.ids.GenericDefId.TheVariants as generic
 use Rattle.hir_types.specs.declared.head.Head.TheVariants as head
@@ -17,7 +17,7 @@ use Rattle.infer_obligations.specs.Words.hir_facts.Projections.{in_part}
 use Rattle.infer_obligations.specs.Words.goal_facts.Environment.{Follows}
 use Rattle.goal_facts.proofs.Saying.{said_is}
 use Rattle.goal_facts.specs.Own.{said_trait}
-use Rattle.infer_obligations.proofs.Words.{each_append, each_get, listed_not_concrete, parts_by, layer, layer_is, args_are, concrete_within, every_at, heads_bool, heads_char, heads_integer, heads_param, heads_tuple, heads_adt, heads_fn_def, found, over_fine, written_heads}
+use Rattle.infer_obligations.proofs.Words.{each_append, each_get, listed_not_concrete, parts_by, layer, layer_is, args_are, concrete_within, every_at, heads_param, heads_var, heads_at_args, written_heads}
 
 -- ---- lists
 
@@ -33,54 +33,6 @@ in_mapped : {X Y : Type 0} (f : X → Y) (xs : List X) (k : ℕ) (x : X) → sli
 in_mapped f [] k x at = absurd (cc)
 in_mapped f (z ∷ xs) zero x at = (let same : z ≡ x = cc in (zero, λ i. Some (f (same i))))
 in_mapped f (z ∷ xs) (suc k) x at = let q = in_mapped f xs k x at in (suc q.0, q.1)
-
--- ---- types of fine heads at types of fine heads
-
-heads_var : (sc : Scope) (n : ℕ) → HasFineHeads sc (ty.Var n)
-heads_var sc n = subst (IsMadeOf (is_fine_head sc) whole) (sym (term_var n)) tt
-
-heads_int_var : (sc : Scope) (n : ℕ) → HasFineHeads sc (ty.IntVar n)
-heads_int_var sc n = subst (IsMadeOf (is_fine_head sc) whole) (sym (term_int_var n)) tt
-
-module _ (sc : Scope) (ts : List Ty) (all : Every (HasFineHeads sc) ts) where
-  abbrev Own : Scope
-  Own = types_scope sc.facts (length ts)
-
-  abbrev HeadsAt : Ty → Type 0
-  HeadsAt t = HasFineHeads sc (at_args ts t)
-
-  heads_by : (t u : Ty) → at_args ts t ≡ u → HasFineHeads sc u → HeadsAt t
-  heads_by t u e h = subst (HasFineHeads sc) (sym e) h
-
-  all_heads_at : (us : List Ty) → Every HeadsAt us → Every (HasFineHeads sc) (map (at_args ts) us)
-  all_heads_at [] h = tt
-  all_heads_at (u ∷ us) h = (h.0, all_heads_at us h.1)
-
-  takes : (o : Option ℕ) (us : List Ty) → has_params o (length us) ≡ true → has_params o (length (map (at_args ts) us)) ≡ true
-  takes o us h = ap (has_params o) (length-map us (at_args ts)) ∙ h
-
-  pub heads_at_args : (t : Ty) → HasFineHeads Own t → HasFineHeads sc (at_args ts t)
-  heads_at_args = over_fine Own HeadsAt (record {
-    bool = heads_by ty.Bool ty.Bool (replaced_bool (with_params (type_args ts))) (heads_bool sc);
-    char = heads_by ty.Char ty.Char (replaced_char (with_params (type_args ts))) (heads_char sc);
-    int = λ i. heads_by (ty.Int i) (ty.Int i) (replaced_int (with_params (type_args ts)) i) (heads_integer sc (integer.Int i));
-    uint = λ i. heads_by (ty.Uint i) (ty.Uint i) (replaced_uint (with_params (type_args ts)) i) (heads_integer sc (integer.Uint i));
-    var = λ n. heads_by (ty.Var n) (ty.Var n) (replaced_var (with_params (type_args ts)) n) (heads_var sc n);
-    int_var = λ n. heads_by (ty.IntVar n) (ty.IntVar n) (replaced_int_var (with_params (type_args ts)) n) (heads_int_var sc n);
-    tuple = λ us h. heads_by (ty.Tuple us) (ty.Tuple (map (at_args ts) us)) (replaced_tuple (with_params (type_args ts)) us) (heads_tuple sc (map (at_args ts) us) (all_heads_at us h));
-    adt = λ id us k h.
-        let vs = map (at_args ts) us in
-        heads_by (ty.Adt id (type_args us)) (ty.Adt id (type_args vs)) (replaced_adt (with_params (type_args ts)) id (type_args us) ∙ ap (ty.Adt id) (types_args_replaced (with_params (type_args ts)) us))
-        (heads_adt sc id vs (takes (adt_params sc.facts id) us k) (all_heads_at us h));
-    fn_def = λ id us k h.
-        let vs = map (at_args ts) us in
-        heads_by (ty.FnDef id (type_args us)) (ty.FnDef id (type_args vs)) (replaced_fn_def (with_params (type_args ts)) id (type_args us) ∙ ap (ty.FnDef id) (types_args_replaced (with_params (type_args ts)) us))
-        (heads_fn_def sc id vs (takes (item_params sc.facts id) us k) (all_heads_at us h));
-    associated = λ id us k h. absurd (true≢false (sym k));
-    param = λ n k.
-        let q = found ts n (ltb-true n (length ts) k) in
-        heads_by (ty.Param n) q.0 (param_at ts n q.0 q.1) (every_at (HasFineHeads sc) ts n q.0 all q.1);
-  })
 
 -- ---- arguments: a hole for each parameter, or each by itself
 
@@ -241,7 +193,7 @@ module _ (raw : RawFacts) (law : IsLawful raw) where
     type_heads w if_direct concrete =
         let h = if_direct (concrete_direct (type_args ts) w concrete) in
         let own : HasFineHeads (types_scope raw (length ts)) (written_type raw.types w) = written_heads raw law (length ts) false false w h.fits h.no_hole in
-        heads_at_args sc ts all (written_type raw.types w) (subst (λ (r : RawFacts). HasFineHeads (types_scope r (length ts)) (written_type raw.types w)) (sym same) own)
+        (heads_at_args sc raw (sym same) ts all (written_type raw.types w) own).made
 
     chain_fine : (ws : List TypeRefId) → AreFit (length ts) ws → AreFineArgs P (chain (map (λ w. type_part (type_at raw (type_args ts) w)) ws))
     chain_fine [] h = tt
@@ -376,12 +328,13 @@ module _ (raw : RawFacts) (law : IsLawful raw) where
     -- where types of fine heads stand for the holes that stand in it
     filled_heads : (p : Fill) (r : TermRole) (t : Term) → ((k : Hole) → occurs k t ≡ true → IsMadeOf Q whole (p k)) → IsMadeOf Q r t → IsMadeOf Q r (apply p t)
     filled_heads p whole (hole k) f h = f k (hole_eq_same k)
-    filled_heads p whole (pair (leaf g) b) f h = (ap (Q g) (width_apply Q p b h.1) ∙ h.0, filled_heads p rest b (λ k o. f k (or_right (occurs k (leaf g)) (occurs k b) o)) h.1)
+    filled_heads p whole (pair (leaf g) b) f h = (ap (Q g) (marks_apply Q p b h.1) ∙ h.0, filled_heads p rest b (λ k o. f k (or_right (occurs k (leaf g)) (occurs k b) o)) h.1)
     filled_heads p whole (pair _ b) f h = absurd h.0
     filled_heads p whole (leaf g) f h = absurd h
-    filled_heads p part (pair (leaf head.TypePart) b) f h = (tt, filled_heads p whole b (λ k o. f k (or_right (occurs k (leaf head.TypePart)) (occurs k b) o)) h.1)
+    filled_heads p part (pair (leaf g) b) f h = (h.0, filled_heads p whole b (λ k o. f k (or_right (occurs k (leaf g)) (occurs k b) o)) h.1)
     filled_heads p part (pair _ b) f h = absurd h.0
-    filled_heads p part _ f h = absurd h
+    filled_heads p part (leaf g) f h = h
+    filled_heads p part (hole k) f h = absurd h
     filled_heads p rest (leaf g) f h = h
     filled_heads p rest (hole k) f h = absurd h
     filled_heads p rest (pair a b) f h = (
