@@ -1,5 +1,5 @@
 -- What is called, as far as its type is known: an item, or no function.
-use Rattle.std.proofs.Common.{◌≡◌, sym, ap, ◌∙◌, List, Some, true, refl, length, ◌⊎◌, inl, inr, false, ℕ, Option, None, option_map, subst, [], slice_get, map}
+use Rattle.std.proofs.Common.{true≢false, ◌≡◌, sym, ap, ◌∙◌, List, Some, true, refl, length, ◌⊎◌, inl, inr, false, ℕ, Option, None, option_map, subst, [], slice_get, map}
 use Rattle.std.proofs.lemmas.Bool.{eqb-true}
 use Rattle.infer_calls.specs.Words.{CallableDefId, GenericArg, Ty-F, out-Ty, out-roll-Ty, Ty, AliasBound, TraitRef, ExprId, Assignment, folded, terms_of, Scope, has_params, names_item, types_scope, type_args, Signature, signature_of, at_args, RawPath, RawExpr, Schedule, bindings, resolved_type, AllOf, apply_resolved_term, resolution, other, outermost_step, HeadOf, of_function, of_ctor, Outermost, HasHead, callable_step, is_callable, IsPathToItem, CallsNonGeneric, Given, HasTy, item_params, HasFineHeads, IsFine, IsCarriedIn, AllFine, ItemsAreCallable, IsCallableItem, InferenceContext, Closes, found_under, OwnDone, Tells, IsReady, IsItem, Nothing, Owed}
 use Rattle.hir_types.specs.declared.head.Head.TheVariants as head
@@ -52,21 +52,22 @@ pub record IsItemType (sc : Scope) (t : Ty) : Type 0 where
   pub is : t ≡ ty.FnDef id (type_args types)
   pub takes : has_params (item_params sc.facts id) (length types) ≡ true
 
+item_told : (sc : Scope) (id : CallableDefId) (xs : List GenericArg) → HasFineHeads sc (ty.FnDef id xs) → IsItemType sc (ty.FnDef id xs)
+item_told sc id xs h =
+    let args = fine_item_args sc id xs h in
+    let made = subst (IsMadeOf (is_fine_head sc) whole) (term_fn_def_types id args.types) (subst (λ ys. HasFineHeads sc (ty.FnDef id ys)) args.are h).made in
+    record { id = id; types = args.types; is = ap (ty.FnDef id) args.are; takes = taken_types (item_params sc.facts id) args.types made.0 }
+
+layer_item : (sc : Scope) (x : Ty-F GenericArg Ty AliasBound TraitRef) → HasFineHeads sc (roll-Ty x) → (is_callable (roll-Ty x) ≡ false) ⊎ IsItemType sc (roll-Ty x)
+layer_item sc (Ty-F.FnDef id xs) h = inr (subst (IsItemType sc) (sym (ty.rolls-FnDef id xs)) (item_told sc id xs (subst (HasFineHeads sc) (ty.rolls-FnDef id xs) h)))
+layer_item sc (Ty-F.FnPtr u ts t) h = absurd (true≢false (sym (subst (IsMadeOf (is_fine_head sc) whole) (term_at (Ty-F.FnPtr u ts t)) h.made).0))
+layer_item sc (Ty-F.Closure i ts t) h = absurd (true≢false (sym (subst (IsMadeOf (is_fine_head sc) whole) (term_at (Ty-F.Closure i ts t)) h.made).0))
+layer_item sc x h = inl (ap callable_step (out-roll-Ty x))
+
 -- a fine type is, or cannot be called
 item_or_not : (sc : Scope) (t : Ty) → HasFineHeads sc t → (is_callable t ≡ false) ⊎ IsItemType sc t
-item_or_not sc = over_fine sc (λ t. (is_callable t ≡ false) ⊎ IsItemType sc t) (record {
-  bool = inl (ap callable_step (ap out-Ty (sym ty.rolls-Bool) ∙ out-roll-Ty Ty-F.Bool));
-  char = inl (ap callable_step (ap out-Ty (sym ty.rolls-Char) ∙ out-roll-Ty Ty-F.Char));
-  int = λ i. inl (ap callable_step (ap out-Ty (sym (ty.rolls-Int i)) ∙ out-roll-Ty (Ty-F.Int i)));
-  uint = λ i. inl (ap callable_step (ap out-Ty (sym (ty.rolls-Uint i)) ∙ out-roll-Ty (Ty-F.Uint i)));
-  var = λ n. inl (ap callable_step (ap out-Ty (sym (ty.rolls-Var n)) ∙ out-roll-Ty (Ty-F.Var n)));
-  int_var = λ n. inl (ap callable_step (ap out-Ty (sym (ty.rolls-IntVar n)) ∙ out-roll-Ty (Ty-F.IntVar n)));
-  tuple = λ ts h. inl (ap callable_step (ap out-Ty (sym (ty.rolls-Tuple ts)) ∙ out-roll-Ty (Ty-F.Tuple ts)));
-  adt = λ id ts k h. inl (ap callable_step (ap out-Ty (sym (ty.rolls-Adt id (type_args ts))) ∙ out-roll-Ty (Ty-F.Adt id (type_args ts))));
-  fn_def = λ id ts k h. inr (record { id = id; types = ts; is = refl; takes = k });
-  param = λ n k. inl (ap callable_step (ap out-Ty (sym (ty.rolls-Param n)) ∙ out-roll-Ty (Ty-F.Param n)));
-  associated = λ id ts k h. inl (ap callable_step (ap out-Ty (sym (ty.rolls-AssociatedType id (type_args ts))) ∙ out-roll-Ty (Ty-F.AssociatedType id (type_args ts))));
-})
+item_or_not sc t h =
+    subst (λ u. (is_callable u ≡ false) ⊎ IsItemType sc u) (roll-out-Ty t) (layer_item sc (out-Ty t) (subst (HasFineHeads sc) (sym (roll-out-Ty t)) h))
 
 -- so many types are as many as there are parameters
 signature_for : (o : Option Signature) (n : ℕ) → has_params (option_map (λ σ. σ.params) o) n ≡ true → (σ : Signature) × (o ≡ Some σ) × (n ≡ σ.params)

@@ -160,9 +160,6 @@ module _ (sc : Scope) (P : Ty → Type 0) (plain : sc.later ≡ false) (cases : 
   layer_told (Ty-F.Slice t) h = none_later head.Slice (marks (chain (type_part (term t.0) ∷ []))) (heads_at (Ty-F.Slice t.0) h).0
   layer_told (Ty-F.Ref m r t) h = none_later (head.Ref m) (marks (chain (type_part (term t.0) ∷ []))) (heads_at (Ty-F.Ref m r t.0) h).0
   layer_told (Ty-F.RawPtr m t) h = none_later (head.RawPtr m) (marks (chain (type_part (term t.0) ∷ []))) (heads_at (Ty-F.RawPtr m t.0) h).0
-  layer_told (Ty-F.FnPtr s ts t) h =
-      let us : List Ty = map (λ e. e.0) ts in
-      none_later (head.FnPtr s) (marks (chain (map type_part (map term us) ++ type_part (term t.0) ∷ []))) (heads_at (Ty-F.FnPtr s us t.0) h).0
   layer_told y h = absurd (true≢false (sym (heads_at (layer_of y) h).0))
 
   -- an argument that is a type

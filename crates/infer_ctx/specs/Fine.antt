@@ -12,12 +12,8 @@ abbrev pub is_type_and_const : List Head → Bool
 is_type_and_const (head.TypePart ∷ head.ConstPart ∷ []) = true
 is_type_and_const ms = false
 
--- inputs and an output
-abbrev pub are_some_types : List Head → Bool
-are_some_types [] = false
-are_some_types (m ∷ ms) = all_types (m ∷ ms)
-
--- The heads of types of later kinds that name nothing of the facts, and over which parts.
+-- The heads of types of later kinds that name nothing of the facts, and over which parts. What can be called is not among them, since a call of
+-- what is no item is none of a function yet.
 abbrev pub is_later_head : Head → List Head → Bool
 is_later_head (head.Float f) ms = no_parts ms
 is_later_head head.Str ms = no_parts ms
@@ -26,7 +22,6 @@ is_later_head head.Array ms = is_type_and_const ms
 is_later_head head.Slice ms = has_types 1 ms
 is_later_head (head.Ref m) ms = has_types 1 ms
 is_later_head (head.RawPtr m) ms = has_types 1 ms
-is_later_head (head.FnPtr s) ms = are_some_types ms
 is_later_head h ms = false
 
 -- The heads of the types that the walk may have in hand, and over which parts: neither `{unknown}` nor an alias is among them, but for

@@ -62,26 +62,49 @@ one_part_more {sc} n ts x t old c new h d = record {
 -- ---- what is known of a type
 
 -- what a type resolves to is fine where the type is
-pub resolved_fine : {sc : Scope} (c : InferenceContext) (t u : Ty) → IsSound sc c → IsFine sc c.goals.table t → HolesAreOf c.goals.table u → resolved_type c.goals.table u ≡ resolved_type c.goals.table t → IsFine sc c.goals.table u
-resolved_fine {sc} c t u s h holes same =
+pub resolved_fine : {sc : Scope} (c : InferenceContext) (t u : Ty) → IsSound sc c → IsFine sc c.goals.table t → HasNoLabel u → HolesAreOf c.goals.table u → resolved_type c.goals.table u ≡ resolved_type c.goals.table t → IsFine sc c.goals.table u
+resolved_fine {sc} c t u s h none holes same =
     let bs = bindings c.goals.table in
     let P : Term → Type 0 = IsMadeOf (is_fine_head sc) whole in
-    let put_in : P (resolved (log_of bs) (term t)) = made_of_resolved (is_fine_head sc) (log_of bs) (term t) s.bound h.heads in
-    let known : P (term (folded (resolution bs) t)) = subst P (sym (resolution_term bs t)) put_in in
-    let alike : P (term (folded (resolution bs) u)) = subst P (ap term (sym same)) known in
+    let alike : P (term (folded (resolution bs) u)) = subst P (ap term (sym same)) (made_of_resolved_term (is_fine_head sc) c.goals.table t s.bound.made h.heads.made) in
     record {
       holes = holes;
-      heads = made_of_within (is_fine_head sc) (terms_of (resolution bs)) whole (term u) (fine_no_alias sc).no_mark (bound_heads sc c.goals.table s.bound) (subst P (term_folded (resolution bs) u) alike);
+      heads = record {
+        made = made_of_within (is_fine_head sc) (terms_of (resolution bs)) whole (term u) (fine_no_alias sc).no_mark (bound_heads sc c.goals.table s.bound) (subst P (term_folded (resolution bs) u) alike);
+        bare = none;
+      };
     }
 
 -- ---- tuples of fine types
 pub tuple_under : (a : Assignment) (ts : List Ty) → folded a (ty.Tuple ts) ≡ ty.Tuple (map (folded a) ts)
 tuple_under a ts = replaced_tuple (with_holes a) ts
 
+-- each type of a carried tuple is one
+each_carried : (ts : List Ty) → IsCarriedType (ty.Tuple ts) → AreCarriedTypes ts
+each_carried ts h = by_each ts (sym (has_hole_elements ts) ∙ h.closed) (elements_bare ts h.unlabelled)
+  where
+    has_hole_elements : (us : List Ty) → has_hole (ty.Tuple us) ≡ list_any has_hole us
+    has_hole_elements us = ap has_hole (sym (ty.rolls-Tuple us)) ∙ (fold-roll-Ty Bool Bool Bool Bool hole_arg hole_step hole_bound hole_trait (Ty-F.Tuple us) ∙ any_mapped us)
+      where
+        any_mapped : (vs : List Ty) → list_any (λ b. b) (map has_hole vs) ≡ list_any has_hole vs
+        any_mapped [] = refl
+        any_mapped (v ∷ vs) = ap (λ b. has_hole v || b) (any_mapped vs)
+
+    neither : (x y : Bool) → (x || y) ≡ false → (x ≡ false) × (y ≡ false)
+    neither false y e = (refl, e)
+    neither true y e = absurd (true≢false e)
+
+    by_each : (us : List Ty) → list_any has_hole us ≡ false → map erased us ≡ us → AreCarriedTypes us
+    by_each [] none bare = tt
+    by_each (u ∷ us) none bare =
+        let q = neither (has_hole u) (list_any has_hole us) none in
+        let r = first_bare u us bare in
+        (record { closed = q.0; unlabelled = r.0 }, by_each us q.1 r.1)
+
 pub carried_each : (sc : Scope) (a : Assignment) (state : State) (ts : List Ty) → IsClosing a → AllFine sc state ts → AreCarriedTypes (map (folded a) ts)
 carried_each sc a state ts k h =
     let tuple : IsCarriedType (ty.Tuple (map (folded a) ts)) = subst (λ t. IsCarriedType t) (tuple_under a ts) (fine_closed sc a (ty.Tuple ts) k (fine_tuple sc state ts h).heads) in
-    sym (carried_tuple (map (folded a) ts)) ∙ tuple
+    each_carried (map (folded a) ts) tuple
 
 -- ---- what comes in
 module _ (g : Given) (p : PatId) (t : Ty) (c : InferenceContext) (h : IsOfBody g.body c.result) (s : IsSound g.scope c) (fo : IsFine g.scope c.goals.table t) where

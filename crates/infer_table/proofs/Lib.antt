@@ -1,3 +1,4 @@
+pub mod BareFound
 pub mod BindingLaws
 pub mod CompletionLaws
 pub mod FrontLaws

@@ -1,8 +1,8 @@
 -- Types without lifetime labels: terms tell them, and replacements keep them.
 use Rattle.std.proofs.Common.{◌≡◌, ℕ, ◌++◌, sym, ap, subst, ◌∙◌, append_assoc, append-nil, List, [], ◌∷◌, map}
-use Rattle.hir_types.specs.Folds.{Maps, SameMaps}
+use Rattle.hir_types.specs.Folds.{in_bound_twice, in_trait_twice}
 use Rattle.hir_types.specs.Replacements.{layers}
-use Rattle.infer_table.specs.Words.{AliasBound, AliasBound-F, fold-AliasBound, roll-AliasBound, Const, GenericArg, GenericArg-F, roll-GenericArg, TraitRef, TraitRef-F, fold-TraitRef, roll-TraitRef, Ty, Ty-F, roll-Ty, Region, erased, arg_erased, erased_step, erased_steps, erasing, no_label, term, type_of_term, term_read, term_erased, term_tells, Steps, folds_follow, GoBySteps, unique, maps_after, in_arg, in_ty, in_bound, in_trait, in_arg_twice, in_ty_twice, in_bound_twice, in_trait_twice, Replacement, Assignment, with_holes, replaced, arg_replaced, bound_replaced, trait_replaced, const_replaced, ty_layer, arg_layer, replacing, at_ty, at_arg, folded}
+use Rattle.infer_table.specs.Words.{AliasBound, AliasBound-F, fold-AliasBound, roll-AliasBound, Const, GenericArg, GenericArg-F, roll-GenericArg, TraitRef, TraitRef-F, fold-TraitRef, roll-TraitRef, Ty, Ty-F, roll-Ty, Region, Maps, erased, arg_erased, erased_step, erased_steps, erasing, no_label, term, type_of_term, term_read, term_erased, term_tells, Steps, folds_follow, GoBySteps, unique, maps_after, in_arg, in_ty, in_bound, in_trait, in_arg_twice, in_ty_twice, Replacement, Assignment, with_holes, replaced, arg_replaced, bound_replaced, trait_replaced, const_replaced, ty_layer, arg_layer, replacing, at_ty, at_arg, folded}
 use Rattle.hir_types.specs.declared.ty.GenericArg.TheVariants as arg
 use Rattle.hir_types.specs.declared.ty.Ty.TheVariants as ty
 use Rattle.infer_table.specs.declared.binding.Binding.{Binding}

@@ -2,7 +2,7 @@
 //! `resolve_completely`.
 ghost use Rattle.std.specs.Prelude.{◌≡◌, IfOk};
 ghost use Rattle.infer_table.specs.Words.{Assignment, with_holes, terms_of};
-ghost use Rattle.infer_table.specs.Own.{AllOf, resolution, IsOpenOrKnown, Respects, Triangular, log_of, bindings, resolved_type, HolesAreOf, Meets, completion_of, completion};
+ghost use Rattle.infer_table.specs.Own.{AllOf, resolution, IsOpenOrKnown, Respects, Triangular, log_of, bindings, resolved_type, HolesAreOf, AreBare, HasNoLabel, Meets, completion_of, completion};
 
 use crate::bindings::Bindings;
 use crate::table::InferenceTable;
@@ -73,6 +73,7 @@ impl InferenceTable {
         ensures same { resolved_type self.now result.now ≡ resolved_type self.now ty.now }
         ensures open { IsOpenOrKnown (bindings self.now) result.now }
         ensures made { HolesAreOf self.now ty.now → HolesAreOf self.now result.now }
+        ensures bare { AreBare (bindings self.now) → HasNoLabel ty.now → HasNoLabel result.now }
     {
         self.bindings.shallow_resolve(ty)
     }

@@ -2,7 +2,7 @@
 ghost use Rattle.std.specs.Prelude.{◌≡◌};
 ghost use Rattle.std.specs.Option.{option_copied};
 ghost use Rattle.infer_table.specs.Words.{folded, const_folded, term};
-ghost use Rattle.infer_table.specs.Own.{AllOf, log_of, Triangular, AreOf, resolution, found_type, found_const, found_for, IsOpenOrKnown};
+ghost use Rattle.infer_table.specs.Own.{AllOf, log_of, Triangular, AreOf, resolution, found_type, found_const, found_for, IsOpenOrKnown, AreBare, HasNoLabel};
 
 use crate::binding::Binding;
 use crate::bindings::Bindings;
@@ -57,6 +57,7 @@ impl Bindings {
         ensures same { folded (resolution self.now.log) result.now ≡ folded (resolution self.now.log) ty.now }
         ensures open { IsOpenOrKnown self.now.log result.now }
         ensures made { AreOf self.now.kinds (term ty.now) → AreOf self.now.kinds (term result.now) }
+        ensures bare { AreBare self.now.log → HasNoLabel ty.now → HasNoLabel result.now }
     {
         let mut known = ty;
         'walk: while let Some(bound) = self.bound_for(known) {

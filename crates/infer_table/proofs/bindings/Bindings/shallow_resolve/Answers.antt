@@ -3,6 +3,7 @@ use Rattle.infer_table.specs.Words.{Term, term}
 use Rattle.infer_table.specs.Own.{log_of, found_for_folded, found_for_in_log, none_for}
 use Rattle.infer_table.proofs.HolesMade.{made_found}
 use Rattle.infer_table.proofs.Weights.{weight, weight_found}
+use Rattle.infer_table.proofs.BareFound.{bare_found}
 use Rattle.infer_table.proofs.bindings.Bindings.shallow_resolve.Goals as goal
 
 pub walk-smaller : goal.walk-smaller
@@ -18,6 +19,7 @@ walk-preserved c = record {
       found_for_folded c.args.self.now.log c.walk.known.now c.in-Some.bound.now c.in-Some.ensures.acyclic (sym c.in-Some.ensures.found)
       ∙ c.walk.invariant.same;
   made = λ h. made_found c.args.self.now.kinds c.args.self.now.log c.walk.known.now c.in-Some.bound.now c.in-Some.ensures.made (sym c.in-Some.ensures.found);
+  bare = λ all h. bare_found c.args.self.now.log c.walk.known.now c.in-Some.bound.now (sym c.in-Some.ensures.found) all;
 }
 
 pub returns-clause-open : goal.returns-clause-open
