@@ -7,7 +7,12 @@ use Rattle.hir_types.specs.declared.ty.Ty.TheVariants as ty
 use Rattle.hir_types.specs.declared.ids.CallableDefId.TheVariants as callable
 use Rattle.infer_calls.specs.Words.hir_raw.declared.raw.RawPath.TheVariants as path
 use Rattle.infer_calls.specs.Words.hir_raw.declared.raw.RawExpr.TheVariants as expr
-use Rattle.infer_calls.proofs.Words.{ctor_type_of_tuple, resolved_fine, walks_paid, over_fine, carried_closed, fn_def_closed, same_closed, variant_with, every_at, fine_fn_args, call_tells, other_call_tells, head_kept, type_kept}
+use Rattle.hir_types.specs.Own.{term_at, term_fn_def_types}
+use Rattle.hir_types.specs.declared.ty.Ty.{roll-Ty, roll-out-Ty}
+use Rattle.infer_table.specs.Own.{whole, IsMadeOf}
+use Rattle.infer_ctx.specs.Own.{is_fine_head}
+use Rattle.infer_ctx.proofs.FineTypes.{taken_types}
+use Rattle.infer_calls.proofs.Words.{ctor_type_of_tuple, resolved_fine, walks_paid, fine_item_args, carried_closed, fn_def_closed, same_closed, variant_with, every_at, fine_fn_args, call_tells, other_call_tells, head_kept, type_kept}
 use Rattle.infer_calls.specs.Own.{CalleeDone, IsCallOf}
 
 -- ---- items, and other types

@@ -12,7 +12,8 @@ use Rattle.hir_types.specs.declared.head.Hole.{Hole}
 use Rattle.hir_types.specs.declared.head.Hole.TheVariants as hole_of
 use Rattle.hir_types.specs.declared.ty.GenericArg.{GenericArg, GenericArg-F, out-GenericArg}
 use Rattle.hir_types.specs.declared.ty.GenericArg.TheVariants as arg
-use Rattle.infer_ctx.specs.Words.{Ty, with_params, param_at, instance_at_types, Assignment, folded, IsCarriedType, type_args, at_args, RawFacts, Scope, adt_params, types_scope, takes_types, no_parts, whole, IsMadeOf, HasNoLabel, bare_var, bare_int_var, replaced_bare, open_term, IsOf, AreOf, State}
+use Rattle.infer_ctx.specs.Words.{Ty, with_params, param_at, instance_at_types, Assignment, folded, IsCarriedType, type_args, at_args, RawFacts, Scope, adt_params, types_scope, takes_types, no_parts, whole, IsMadeOf, HasNoLabel, bare_var, bare_int_var, replaced_bare, open_term, AreOf, State}
+use Rattle.infer_table.specs.Own.{IsOf}
 use Rattle.infer_ctx.specs.Own.{item_params, is_fine_head, is_later_head, HasFineHeads, IsFine, IsCarriedIn, Every, AllFine}
 use Rattle.infer_ctx.proofs.FineTypes.{every_at, every_same}
 use Rattle.infer_ctx.proofs.Bare.{bare_error}

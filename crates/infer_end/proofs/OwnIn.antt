@@ -20,7 +20,7 @@ pub stands_in_scope : (sc : Scope) (t : Ty) → CanStand sc t → IsCarriedIn sc
 stands_in_scope sc t h =
     let fine = in_hand_fine sc new_state t h in
     record {
-      carried = subst IsCarriedType (same_without_holes fallback t h.holes) (fine_closed sc fallback t (record { var = λ n. carried_error; int_var = λ n. (Int int.I32, refl) }) fine.heads);
+      carried = subst IsCarriedType (same_without_holes fallback t h.holes) (fine_closed sc fallback t (record { var = λ n. carried_error; int_var = λ n. (Int int.I32, refl); const_var = λ n. refl }) fine.heads);
       heads = fine.heads;
     }
 

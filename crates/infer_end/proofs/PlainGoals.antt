@@ -345,7 +345,7 @@ module _ (raw : RawFacts) (law : IsLawful raw) (b : RawBody) (r : InferenceResul
   plain_needs structs (def.FunctionId f) plain is items obeys carried =
       needs_of_fn structs f plain (plain_body raw (def.FunctionId f) b plain is) items obeys (λ e t has.
       (let k = carried e t has in
-      let heads = subst (λ x. HasFineHeads (record { facts = raw; params = params_of raw (def.FunctionId f); associated = x }) t) (none_plain raw law (def.FunctionId f) plain) k.heads in
+      let heads = subst (λ x. HasFineHeads (record { facts = raw; params = params_of raw (def.FunctionId f); associated = x; later = false }) t) (none_plain raw law (def.FunctionId f) plain) k.heads in
       carried_fine new_state (types_scope raw (params_of raw (def.FunctionId f))) t k.carried heads))
   plain_needs structs (def.ConstId c) plain is items obeys carried = absurd plain
   plain_needs structs (def.StaticId s) plain is items obeys carried = absurd plain

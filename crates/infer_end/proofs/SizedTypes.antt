@@ -3,7 +3,7 @@ use Rattle.std.specs.List.{list_all, range_with_len}
 use Rattle.std.specs.Option.{option_and_then}
 use Rattle.std.proofs.Common.{ℕ, zero, suc, ◌+◌, ◌-◌, ◌<◌, ◌≡◌, arith, true, refl, sym, ap, ◌∙◌, subst, true≢false, List, [], ◌∷◌, map, length, Option, Some, None, option_map, slice_get, Bool, false}
 use Rattle.std.proofs.lemmas.Bool.{ltb-true, eqb-true, or_left}
-use Rattle.infer_end.specs.Words.{AdtId, VariantId, TypeRefId, Head, Hole, Ty, replaced_var, arg_replaced_type, Assignment, with_holes, args_replaced, Term, hole, leaf, pair, node, chain, type_part, term, arg_term, terms_of, apply, occurs, hole_number, parts_of_types, arg_term_type, term_bool, term_char, term_int, term_uint, term_tuple, term_param, term_var, term_int_var, term_adt_types, term_fn_def_types, RawAdt, RawAdtKind, RawField, RawVariant, RawFacts, variant_aliases, Scope, adt_params, has_params, types_scope, type_args, at_args, written_type, is_empty, IsLawful, adt_ids, field_has_no_hole, fields_fit, fits_direct, is_direct_variant, is_direct_struct, are_direct_structs, are_of_parts, hole_eq_same, TermRole, whole, part, rest, IsTypeMark, IsMadeOf, width, AreOf, new_state, System, IsKnownPart, Fill, Aliases, IsReadLeaf, IsRead, ReadsAs, role, AreArgs, IsNth, IsLast, field_tail, SizedYes, holes, instance, type_at, HasHolesBelow, last_of, variant_of, last_field_of, IsFine, AllFine, is_fine_head, HasFineHeads}
+use Rattle.infer_end.specs.Words.{AdtId, VariantId, TypeRefId, Head, Hole, Ty, replaced_var, arg_replaced_type, Assignment, with_holes, args_replaced, Term, hole, leaf, pair, node, chain, type_part, term, arg_term, terms_of, apply, occurs, hole_number, parts_of_types, arg_term_type, term_bool, term_char, term_int, term_uint, term_tuple, term_param, term_var, term_int_var, term_adt_types, term_fn_def_types, RawAdt, RawAdtKind, RawField, RawVariant, RawFacts, variant_aliases, Scope, adt_params, has_params, types_scope, type_args, at_args, written_type, is_empty, IsLawful, adt_ids, field_has_no_hole, fields_fit, fits_direct, is_direct_variant, is_direct_struct, are_direct_structs, are_of_parts, hole_eq_same, TermRole, whole, part, rest, IsPartMark, IsMark, marks, IsMadeOf, width, AreOf, new_state, System, IsKnownPart, Fill, Aliases, IsReadLeaf, IsRead, ReadsAs, role, AreArgs, IsNth, IsLast, field_tail, SizedYes, holes, instance, type_at, HasHolesBelow, last_of, variant_of, last_field_of, IsFine, AllFine, is_fine_head, HasFineHeads}
 use Rattle.hir_types.specs.declared.head.Head.TheVariants as head
 use Rattle.hir_types.specs.declared.head.Hole.TheVariants as hole_of
 use Rattle.hir_types.specs.declared.ty.Const.TheVariants as const
@@ -24,20 +24,28 @@ AreClosedIn sc ts = AllFine sc new_state ts
 -- ---- no alias is to be read in it, and it is no hole
 
 module _ (sc : Scope) where
-  head_is_read : (h : Head) (n : ℕ) → is_fine_head sc h n ≡ true → IsReadLeaf (role (leaf h))
-  head_is_read (head.Projection k) n e = true≢false (sym e)
-  head_is_read _ n e = tt
+  head_is_read : (h : Head) (ms : List Head) → is_fine_head sc h ms ≡ true → IsReadLeaf (role (leaf h))
+  head_is_read (head.Projection k) ms e = true≢false (sym e)
+  head_is_read _ ms e = tt
 
-  first_is_read : (a : Term) (n : ℕ) → IsHead (is_fine_head sc) a n → IsRead a
-  first_is_read (hole k) n h = absurd h
-  first_is_read (leaf g) n h = head_is_read g n h
-  first_is_read (pair a b) n h = absurd h
+  first_is_read : (a : Term) (ms : List Head) → IsHead (is_fine_head sc) a ms → IsRead a
+  first_is_read (hole k) ms h = absurd h
+  first_is_read (leaf g) ms h = head_is_read g ms h
+  first_is_read (pair a b) ms h = absurd h
 
-  mark_is_read : (a : Term) → IsTypeMark a → IsRead a
-  mark_is_read (hole k) h = absurd h
-  mark_is_read (leaf head.TypePart) h = tt
-  mark_is_read (leaf _) h = absurd h
-  mark_is_read (pair a b) h = absurd h
+  part_mark_is_read : (a : Term) → IsPartMark a → IsRead a
+  part_mark_is_read (hole k) h = absurd h
+  part_mark_is_read (leaf head.TypePart) h = tt
+  part_mark_is_read (leaf head.ConstPart) h = tt
+  part_mark_is_read (leaf _) h = absurd h
+  part_mark_is_read (pair a b) h = absurd h
+
+  mark_is_read : (g : Head) → IsMark g → IsRead (leaf g)
+  mark_is_read (head.Principal id) h = tt
+  mark_is_read head.NoPrincipal h = tt
+  mark_is_read (head.Bound id) h = tt
+  mark_is_read (head.AutoTrait id) h = tt
+  mark_is_read _ h = absurd h
 
   end_is_read : (g : Head) → IsMadeOf (is_fine_head sc) rest (leaf g) → IsRead (leaf g)
   end_is_read head.End h = tt
@@ -46,16 +54,16 @@ module _ (sc : Scope) where
   made_is_read : (r : TermRole) (t : Term) → IsMadeOf (is_fine_head sc) r t → IsRead t
   made_is_read whole (hole k) h = tt
   made_is_read whole (leaf g) h = absurd h
-  made_is_read whole (pair a b) h = (first_is_read a (width b) h.0, made_is_read rest b h.1)
+  made_is_read whole (pair a b) h = (first_is_read a (marks b) h.0, made_is_read rest b h.1)
   made_is_read part (hole k) h = absurd h
-  made_is_read part (leaf g) h = absurd h
-  made_is_read part (pair a b) h = (mark_is_read a h.0, made_is_read whole b h.1)
+  made_is_read part (leaf g) h = mark_is_read g h
+  made_is_read part (pair a b) h = (part_mark_is_read a h.0, made_is_read whole b h.1)
   made_is_read rest (hole k) h = absurd h
   made_is_read rest (leaf g) h = end_is_read g h
   made_is_read rest (pair a b) h = (made_is_read part a h.0, made_is_read rest b h.1)
 
   pub heads_are_read : (t : Ty) → HasFineHeads sc t → IsRead (term t)
-  heads_are_read t h = made_is_read whole (term t) h
+  heads_are_read t h = made_is_read whole (term t) h.made
 
   pub fine_is_read : (t : Ty) → IsClosedIn sc t → IsRead (term t)
   fine_is_read t h = heads_are_read t h.heads
@@ -66,22 +74,23 @@ module _ (sc : Scope) where
   known_term m (pair a b) h g = tt
 
   pub fine_is_known : (m : Term) (t : Ty) → IsClosedIn sc t → IsKnownPart (pair m (term t))
-  fine_is_known m t h = known_term m (term t) h.holes h.heads
+  fine_is_known m t h = known_term m (term t) h.holes h.heads.made
 
   -- ---- arguments
 
-  chain_closed : (ts : List Ty) → AreOf [] (chain (parts_of_types ts)) → IsMadeOf (is_fine_head sc) rest (chain (parts_of_types ts)) → AreClosedIn sc ts
-  chain_closed [] h k = tt
-  chain_closed (t ∷ ts) h k =
+  chain_closed : (ts : List Ty) → AreOf [] (chain (parts_of_types ts)) → IsMadeOf (is_fine_head sc) rest (chain (parts_of_types ts)) → map erased ts ≡ ts → AreClosedIn sc ts
+  chain_closed [] h k none = tt
+  chain_closed (t ∷ ts) h k none =
       let parts = are_of_parts [] (type_part (term t)) (chain (parts_of_types ts)) h in
-      (record { holes = (are_of_parts [] (leaf head.TypePart) (term t) parts.0).1; heads = k.0.1 }, chain_closed ts parts.1 k.1)
+      let bare = first_bare t ts none in
+      (record { holes = (are_of_parts [] (leaf head.TypePart) (term t) parts.0).1; heads = record { made = k.0.1; bare = bare.0 } }, chain_closed ts parts.1 k.1 bare.1)
 
   pub adt_args_closed : (id : AdtId) (ts : List Ty) → IsClosedIn sc (ty.Adt id (type_args ts)) → AreClosedIn sc ts
   adt_args_closed id ts h =
       let P : Term → Type 0 = AreOf [] in
       let Q : Term → Type 0 = IsMadeOf (is_fine_head sc) whole in
       let is = term_adt_types id ts in
-      chain_closed ts (are_of_parts [] (leaf (head.Adt id)) (chain (parts_of_types ts)) (subst P is h.holes)).1 (subst Q is h.heads).1
+      chain_closed ts (are_of_parts [] (leaf (head.Adt id)) (chain (parts_of_types ts)) (subst P is h.holes)).1 (subst Q is h.heads.made).1 (adt_args_bare id ts h.heads.bare)
 
 -- ---- arguments for holes
 
@@ -233,7 +242,7 @@ module _ (raw : RawFacts) (law : IsLawful raw) (structs : are_direct_structs raw
         subst Sized (sym (term_adt_types id ts)) (subst P (sym (fields id)) (adt_by_entry id ts (adt_args_closed sc id ts closed) (slice_get raw.adts id.0) refl count)))
 
     sized_step : (t : Ty) → IsClosedIn sc t → Sized (term t)
-    sized_step t closed = over_fine sc IsSized (record {
+    sized_step t closed = over_fine sc IsSized refl (record {
       bool = by_term ty.Bool (node head.Bool []) term_bool tt;
       char = by_term ty.Char (node head.Char []) term_char tt;
       int = λ i. by_term (ty.Int i) (node (head.Int i) []) (term_int i) tt;

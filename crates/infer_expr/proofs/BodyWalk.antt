@@ -89,7 +89,7 @@ new_sound sc b goals = record {
   some = (
     fallback,
     record {
-      closing = record { var = λ n. carried_error; int_var = λ n. (Int int.I32, refl) };
+      closing = record { var = λ n. carried_error; int_var = λ n. (Int int.I32, refl); const_var = λ n. refl };
       meets = tt;
     },
   );

@@ -1,10 +1,9 @@
 -- New holes for the types of patterns, and what a tuple pattern asks of what comes in.
 use Rattle.std.proofs.Common.{◌≡◌, refl, Some, None, ℕ, List, slice_get, zero, suc, ◌+◌, ◌⊎◌, inl, inr, length, [], ◌∷◌, ◌++◌, subst, ◌∙◌, arith, length-append, Option, sym, ap, map, true, false}
-use Rattle.infer_pat.specs.Words.{Ty, folded, Assignment, with_holes, Term, term, terms_of, term_folded, replaced_tuple, PatId, Scope, IsCarriedType, AreCarriedTypes, carried_tuple, with_new_hole, hole_count, State, HolesAreOf, bindings, resolved_type, whole, IsMadeOf, made_of_resolved, made_of_within, resolution, resolution_term, resolved, stays_itself, stays_twice, stays_with, IsOfBody, mismatch, Given, InferenceContext, IsTold, IsSound, IsClosing, Closes, closed_mismatch, found_under, expected_under, IsFine, is_fine_head, AllFine, ArePartTypes, Follows, with_pat_mismatch, IsUnifiedIf}
+use Rattle.infer_pat.specs.Words.{Ty, folded, Assignment, with_holes, Term, term, terms_of, term_folded, replaced_tuple, PatId, Scope, AreCarriedTypes, HasNoLabel, with_new_hole, hole_count, State, HolesAreOf, bindings, resolved_type, whole, IsMadeOf, made_of_resolved_term, made_of_within, resolution, stays_itself, stays_twice, stays_with, IsOfBody, mismatch, Given, InferenceContext, IsTold, IsSound, IsClosing, Closes, closed_mismatch, found_under, expected_under, IsFine, is_fine_head, AllFine, ArePartTypes, Follows, with_pat_mismatch, IsUnifiedIf}
 use Rattle.hir_types.specs.declared.head.HoleKind.TheVariants as kind
 use Rattle.hir_types.specs.declared.ty.Ty.TheVariants as ty
 use Rattle.infer_pat.proofs.Words.{grew_itself, grew_by_hole, grew_twice, told_beside, follows_itself, fine_hole, fine_grown, fine_no_alias, fine_tuple, fine_closed, same_found, closes_same, pat_ty_under, pat_mismatch_under, of_body_pat_ty, of_body_pat_mismatch, sound_pat_ty, sound_pat_mismatch, holed, holed_sound, bound_heads}
-use Rattle.infer_pat.specs.Words.infer_table.Solutions.{log_of}
 use Rattle.infer_pat.specs.Words.infer_ctx.Context.{with_pat_ty}
 use Rattle.infer_pat.specs.Words.infer_ctx.Found as found
 use Rattle.infer_pat.specs.Own.{IsGivenOrNew, PatDemanded, IsDemanded}
@@ -79,32 +78,9 @@ resolved_fine {sc} c t u s h none holes same =
 pub tuple_under : (a : Assignment) (ts : List Ty) → folded a (ty.Tuple ts) ≡ ty.Tuple (map (folded a) ts)
 tuple_under a ts = replaced_tuple (with_holes a) ts
 
--- each type of a carried tuple is one
-each_carried : (ts : List Ty) → IsCarriedType (ty.Tuple ts) → AreCarriedTypes ts
-each_carried ts h = by_each ts (sym (has_hole_elements ts) ∙ h.closed) (elements_bare ts h.unlabelled)
-  where
-    has_hole_elements : (us : List Ty) → has_hole (ty.Tuple us) ≡ list_any has_hole us
-    has_hole_elements us = ap has_hole (sym (ty.rolls-Tuple us)) ∙ (fold-roll-Ty Bool Bool Bool Bool hole_arg hole_step hole_bound hole_trait (Ty-F.Tuple us) ∙ any_mapped us)
-      where
-        any_mapped : (vs : List Ty) → list_any (λ b. b) (map has_hole vs) ≡ list_any has_hole vs
-        any_mapped [] = refl
-        any_mapped (v ∷ vs) = ap (λ b. has_hole v || b) (any_mapped vs)
-
-    neither : (x y : Bool) → (x || y) ≡ false → (x ≡ false) × (y ≡ false)
-    neither false y e = (refl, e)
-    neither true y e = absurd (true≢false e)
-
-    by_each : (us : List Ty) → list_any has_hole us ≡ false → map erased us ≡ us → AreCarriedTypes us
-    by_each [] none bare = tt
-    by_each (u ∷ us) none bare =
-        let q = neither (has_hole u) (list_any has_hole us) none in
-        let r = first_bare u us bare in
-        (record { closed = q.0; unlabelled = r.0 }, by_each us q.1 r.1)
-
 pub carried_each : (sc : Scope) (a : Assignment) (state : State) (ts : List Ty) → IsClosing a → AllFine sc state ts → AreCarriedTypes (map (folded a) ts)
-carried_each sc a state ts k h =
-    let tuple : IsCarriedType (ty.Tuple (map (folded a) ts)) = subst (λ t. IsCarriedType t) (tuple_under a ts) (fine_closed sc a (ty.Tuple ts) k (fine_tuple sc state ts h).heads) in
-    each_carried (map (folded a) ts) tuple
+carried_each sc a state [] k h = tt
+carried_each sc a state (t ∷ ts) k h = (fine_closed sc a t k h.0.heads, carried_each sc a state ts k h.1)
 
 -- ---- what comes in
 module _ (g : Given) (p : PatId) (t : Ty) (c : InferenceContext) (h : IsOfBody g.body c.result) (s : IsSound g.scope c) (fo : IsFine g.scope c.goals.table t) where

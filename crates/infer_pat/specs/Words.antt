@@ -18,7 +18,7 @@ pub use Rattle.hir_types.specs.declared.ty.IntegerTy.{IntegerTy}
 pub use Rattle.hir_types.specs.declared.ty.TraitRef.{TraitRef}
 pub use Rattle.hir_types.specs.declared.ty.Ty.{Ty, Ty-F, out-Ty, out-roll-Ty, roll-Ty, roll-out-Ty}
 pub use Rattle.infer_obligations.specs.Words.{is_alias, variant_aliases, alias_is_hole, other_is_itself, Binds, IsInBody, IsSchedule, Node, Part, Role, after, arm, arm_parts, arm_pattern, arm_patterns, arms_parts, binding_of, body_parts, condition, else_branch, end, expr_part, guard, initializer, inner, let_pattern, maybe_part, param_parts, parameter, part_at, parts_of_expr, parts_of_pat, pat_part, pat_parts, pattern_literal, root, scrutinee, start, statement, stmt_at, stmt_parts, stmts_of, stmts_parts, subpattern, subpatterns, tail, the_body, then_branch, Scope, adt_params, callable_params, fn_arity, has_params, scope_of, types_scope, variant_arity, Signature, at_args, ctor_item, ctor_type, signature_of, taken_types, type_args, variant_types, StandsIn, filled, filled_by, filled_type, in_part, is_itself, type_parts, written_type, RawAdt, RawArm, RawBody, RawExpr, RawFacts, RawField, RawFn, RawLiteral, RawPat, RawPath, RawStmt, RawType, RawVariant, Schedule}
-pub use Rattle.infer_obligations.specs.Words.{HasBody, HasCarriedBody, IsWalkable, body_id_of, body_of, is_carried_body, is_carried_expr, is_carried_stmt, AreCarriedTypes, IsCarriedType, carried_error, carried_integer, carried_tuple, same_carried, AllHold, BreaksAt, filled_agree, filled_folded, ChildrenBefore, FirstBroken, IsLawful, PassesAll, Test, says, tests, type_ids, masked_before, IsLiteral, filled_parts, most_above, FactsList, Law}
+pub use Rattle.infer_obligations.specs.Words.{HasBody, HasCarriedBody, IsWalkable, body_id_of, body_of, is_carried_body, is_carried_expr, is_carried_stmt, AreCarriedTypes, HasNoLabel, made_of_resolved_term, IsCarriedType, carried_error, carried_integer, carried_tuple, same_carried, AllHold, BreaksAt, filled_agree, filled_folded, ChildrenBefore, FirstBroken, IsLawful, PassesAll, Test, says, tests, type_ids, masked_before, IsLiteral, filled_parts, most_above, FactsList, Law}
 pub use Rattle.infer_obligations.specs.Words.{HasMadeIf, IsMadeOf, made_of_resolved, made_of_within, whole, IsOpenOrKnown, resolution, resolution_term, resolved, Grew, HolesAreOf, State, bindings, hole_count, new_state, resolved_type, with_new_hole}
 pub use Rattle.infer_obligations.specs.Words.{Each}
 pub use Rattle.infer_obligations.specs.Words.{system, Answer}

@@ -1,6 +1,7 @@
 pub mod AliasGoals
 pub mod Consequences
 pub mod DerivationLaws
+pub mod FitTerms
 pub mod InHand
 pub mod Derived
 pub mod NoNeeds

@@ -18,6 +18,7 @@ pub mod Shape
 pub mod Made
 pub mod AliasNeeds
 pub mod Proved
+pub mod FitTerms
 pub mod InHand
 pub mod CannotHold
 pub mod Projections

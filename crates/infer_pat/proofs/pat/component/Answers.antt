@@ -11,7 +11,7 @@ returns-in_ok-part-in-Some-get-clause-fine c =
     let state : State = c.args.context.now.goals.table in
     let P : Ty → Type 0 = IsFine (scope_in c.args.given.now) state in
     let given : P c.in-Some.ty = subst (λ x. IsFineExpectation (scope_in c.args.given.now) state x) c.in-Some.is c.requires.fine in
-    let known : P c.shallow_resolve.result.now = resolved_fine c.args.context.now c.in-Some.ty c.shallow_resolve.result.now c.requires.sound given (c.shallow_resolve.ensures.made given.holes) c.shallow_resolve.ensures.same in
+    let known : P c.shallow_resolve.result.now = resolved_fine c.args.context.now c.in-Some.ty c.shallow_resolve.result.now c.requires.sound given (c.shallow_resolve.ensures.bare c.requires.sound.bound.bare given.heads.bare) (c.shallow_resolve.ensures.made given.holes) c.shallow_resolve.ensures.same in
     let whole : P (ty.Tuple c.in-Tuple.tys) = subst P c.in-Tuple.is known in
     let found : slice_get c.in-Tuple.tys c.args.at ≡ Some c.in-Some-get.part.now = search rules in
     subst P (sym c.in_ok-part-in-Some-get.ensures) (fine_part (scope_in c.args.given.now) state c.in-Tuple.tys c.args.at c.in-Some-get.part.now whole found)
