@@ -12,7 +12,8 @@ use Rattle.infer_end.proofs.Definitions.{found_body, table_of}
 use Rattle.infer_end.proofs.OwnIn.{plain_names_none}
 use Rattle.infer_end.proofs.Fits.{completed_table_fits, completed_table_read, fine_fits, seen_fits}
 use Rattle.infer_end.proofs.SizedTypes.{heads_are_read}
-use Rattle.infer_end.proofs.GeneralTypes.{fine_general, fine_known, chosen, chosen_heads, chosen_closes, known_heads}
+use Rattle.infer_end.proofs.GeneralTypes.{fine_general, fine_known, chosen, chosen_heads, chosen_closes, known_heads, with_values, types_same}
+use Rattle.hir_types.specs.declared.ty.Const.TheVariants as const
 use Rattle.infer_end.proofs.PlainBodies.{plain_body, no_ctor_aliases, no_placeholder, calls_item, none_plain, no_let_aliases}
 use Rattle.infer_end.proofs.PlainGoals.{plain_needs}
 use Rattle.infer_end.proofs.Staying.{none_stays}
@@ -250,12 +251,12 @@ module _ (raw : RawFacts) (d : DefWithBodyId) (i : BodyId) (b : RawBody) (s : Sc
       said_nothing : (a : Assignment) → said a c.result.seen c.result.expr_diagnostics ≡ c.result.expr_diagnostics
       said_nothing a = ap (λ l. said a l c.result.expr_diagnostics) nothing_seen
 
-      module _ (clean : HasNoComplaint table) (a : Assignment) (gives : GivesPlain sc a) where
+      module _ (clean : HasNoComplaint table) (a : Assignment) (gives : GivesPlain sc a) (values : (n : ℕ) → (v : ℕ) × (a.const_var n ≡ const.Value v)) where
         abbrev q : Assignment
-        q = chosen sc a gives c done.sound
+        q = chosen sc a gives values c done.sound
 
         at_q : Closes q c
-        at_q = chosen_closes sc a gives c done.sound acyclic
+        at_q = chosen_closes sc a gives values c done.sound acyclic
 
         abbrev other_table : InferenceResult
         other_table = closed_table q c.asked (result_with (Some x))
@@ -277,7 +278,7 @@ module _ (raw : RawFacts) (d : DefWithBodyId) (i : BodyId) (b : RawBody) (s : Sc
             no_gap (node.PatId p) y h = clean.gaps (node.PatId p) y (record { gaps = h.gaps; at = h.at; number = h.number; listed = h.listed })
 
         heads_of : (xs : List (Option Ty)) → ((n : ℕ) (t : Ty) → At xs n t → IsFine sc c.goals.table t) → (n : ℕ) (t : Ty) → At (closed_types q xs) n t → HasFineHeads sc t
-        heads_of xs fine n t there = (let k = At-unclosed (folded q) xs n t there in subst (λ u. HasFineHeads sc u) k.2 (chosen_heads sc a gives c done.sound k.0 (fine n k.0 k.1).heads))
+        heads_of xs fine n t there = (let k = At-unclosed (folded q) xs n t there in subst (λ u. HasFineHeads sc u) k.2 (chosen_heads sc a gives values c done.sound k.0 (fine n k.0 k.1).heads))
 
         other_heads : AllTypes (HasFineHeads sc) other_table
         other_heads = record {
@@ -309,7 +310,7 @@ module _ (raw : RawFacts) (d : DefWithBodyId) (i : BodyId) (b : RawBody) (s : Sc
         other_derives : are_direct_structs raw ≡ true → IsDerivation raw d other_table
         other_derives structs =
             let h = other_is_table in
-            derivation_of raw d other_table h (plain_names_none raw lawful d plain) (no_let_aliases raw (params_of raw d) h.body (plain_body raw d h.body plain h.is_body) lawful) (all_types_so _ _ other_table (fine_known sc) other_heads) other_clean (λ obeys. plain_needs raw lawful h.body other_table structs d plain h.is_body h.typed.shape.items obeys other_carried)
+            derivation_of raw d other_table h (plain_names_none raw lawful d plain) (no_let_aliases raw (params_of raw d) h.body (plain_body raw d h.body plain h.is_body) lawful) (all_types_so _ _ other_table (fine_known sc refl) other_heads) other_clean (λ obeys. plain_needs raw lawful h.body other_table structs d plain h.is_body h.typed.shape.items obeys other_carried)
 
         -- it is the table with these types in the place of its own
         is_closed_by : other_table ≡ closed_by a x table
@@ -351,7 +352,15 @@ module _ (raw : RawFacts) (d : DefWithBodyId) (i : BodyId) (b : RawBody) (s : Sc
       general_of : (ts : List (Option Ty)) (us : List Ty) → AreResolved c.goals.table ts us → ((n : ℕ) (t : Ty) → At ts n t → IsFine sc c.goals.table t) → AreGeneralTypes sc us
       general_of ts us e fine n u there =
           (let k = from_recorded c.goals.table ts us n u e there in
-          subst (λ t. IsGeneralType sc t) k.2 (fine_general sc (none_plain raw lawful d plain) (resolved_type c.goals.table k.0) (known_heads sc c done.sound k.0 (fine n k.0 k.1).heads)))
+          subst (λ t. IsGeneralType sc t) k.2 (fine_general sc (none_plain raw lawful d plain) refl (resolved_type c.goals.table k.0) (known_heads sc c done.sound k.0 (fine n k.0 k.1).heads)))
+
+      -- what stands for holes of consts is no matter
+      closed_alike : (a : Assignment) → closed_by (with_values a) x table ≡ closed_by a x table
+      closed_alike a =
+          let exprs = types_same sc a x.exprs (general_of c.result.type_of_expr x.exprs resolved.exprs done.sound.fine.exprs) in
+          let pats = types_same sc a x.pats (general_of c.result.type_of_pat x.pats resolved.pats done.sound.fine.pats) in
+          let bound = types_same sc a x.bindings (general_of c.result.type_of_binding x.bindings resolved.bindings done.sound.fine.bindings) in
+          λ k. record table { type_of_expr = exprs k; type_of_pat = pats k; type_of_binding = bound k }
 
       pub general_types : IsGeneralOf raw d table x
       general_types =
@@ -373,7 +382,9 @@ module _ (raw : RawFacts) (d : DefWithBodyId) (i : BodyId) (b : RawBody) (s : Sc
               pats = types_closed fallback c.goals.table c.result.type_of_pat x.pats resolved.pats;
               bindings = types_closed fallback c.goals.table c.result.type_of_binding x.bindings resolved.bindings;
             };
-            closings = λ structs clean a gives. closing_derives clean a gives structs;
+            closings = λ structs clean a gives.
+                subst (λ (r : InferenceResult). IsDerivation raw d r) (closed_alike a)
+                (closing_derives clean (with_values a) (record { var = gives.var; int_var = gives.int_var }) (λ n. (0, refl)) structs);
           }
 
   -- ---- with what is kept
