@@ -2,7 +2,7 @@
 use Rattle.std.specs.Prelude.{◌≡◌, ◌<◌, ℕ, zero, suc, Bool, false, ◌||◌, List, [], ◌∷◌, map, slice_get, Option, Some, refl}
 use Rattle.std.specs.List.{list_any}
 use Rattle.std.proofs.Common.{arith, sym, ◌∙◌, ap, subst}
-use Rattle.hir_facts.specs.Words.{Maps, folds, in_ty, erasing, TypeRefId, AliasBound, roll-AliasBound, AdtId, CallableDefId, GenericArg, GenericArg-F, fold-GenericArg, fold-roll-GenericArg, roll-GenericArg, TraitRef, roll-TraitRef, IntegerTy, Ty, Ty-F, roll-Ty, fold-roll-Ty, integer_type, erased, arg_erased, erased_step, Same, has_hole, hole_arg, hole_step, hole_bound, hole_trait, IsClosed, RawType, RawFacts, type_parts, filled_by, filled_within, written_type, TypeAliasId}
+use Rattle.hir_facts.specs.Words.{Maps, Steps, folds, in_ty, erasing, TypeRefId, AliasBound, roll-AliasBound, AdtId, CallableDefId, GenericArg, GenericArg-F, fold-GenericArg, fold-roll-GenericArg, roll-GenericArg, TraitRef, roll-TraitRef, IntegerTy, Ty, Ty-F, roll-Ty, fold-roll-Ty, integer_type, erased, arg_erased, erased_step, Same, has_hole, hole_arg, hole_step, hole_bound, hole_trait, IsClosed, RawType, RawFacts, type_parts, filled_by, filled_within, written_type, TypeAliasId}
 use Rattle.hir_types.specs.declared.ty.GenericArg.TheVariants as arg
 use Rattle.hir_types.specs.declared.ty.IntegerTy.TheVariants.{Int, Uint}
 use Rattle.hir_types.specs.declared.ty.Ty.TheVariants as ty
@@ -43,8 +43,11 @@ same_carried s t h k e = sym h.unlabelled ∙ (e ∙ k.unlabelled)
 -- ---- layer by layer
 
 -- `has_hole` and what is like it
+abbrev open_steps : Steps Bool Bool Bool Bool
+open_steps = record { arg = hole_arg; ty = hole_step; bound = hole_bound; trait = hole_trait }
+
 abbrev open_holes : Maps Bool Bool Bool Bool
-open_holes = folds (record { arg = hole_arg; ty = hole_step; bound = hole_bound; trait = hole_trait })
+open_holes = folds open_steps
 
 closed_at : (x : Ty-F GenericArg Ty AliasBound TraitRef) (t : Ty) → roll-Ty x ≡ t
     → hole_step (in_ty open_holes x) ≡ false → IsClosed t

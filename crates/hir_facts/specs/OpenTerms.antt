@@ -2,7 +2,7 @@
 use Rattle.std.specs.Prelude.{◌≡◌, Bool, true, false, ◌||◌, ◌++◌, List, [], ◌∷◌, map, Some, None, refl}
 use Rattle.std.specs.List.{flat_map, list_any}
 use Rattle.std.proofs.Common.{sym, ◌∙◌, ap, ap₂, true≢false}
-use Rattle.hir_types.specs.Own.{Maps, folds, folds_follow, GoBySteps, unique, in_arg, in_ty, has_hole, hole_arg, hole_bound, hole_const, hole_step, hole_trait, IsClosed, Term, hole, leaf, pair, chain, const_term, type_part, arg_step, ty_step, auto_parts, term, arg_term, bound_parts, trait_parts, terms, term_at, arg_term_at, bound_parts_is, trait_parts_is, occurs, AliasBound, roll-AliasBound, Const, GenericArg, GenericArg-F, TraitId, TraitRef, roll-TraitRef, Ty, Ty-F}
+use Rattle.hir_types.specs.Own.{Maps, Steps, folds, folds_follow, GoBySteps, unique, in_arg, in_ty, has_hole, hole_arg, hole_bound, hole_const, hole_step, hole_trait, IsClosed, Term, hole, leaf, pair, chain, const_term, type_part, arg_step, ty_step, auto_parts, term, arg_term, bound_parts, trait_parts, terms, term_at, arg_term_at, bound_parts_is, trait_parts_is, occurs, AliasBound, roll-AliasBound, Const, GenericArg, GenericArg-F, TraitId, TraitRef, roll-TraitRef, Ty, Ty-F}
 use Rattle.hir_types.specs.declared.head.Head.TheVariants as head
 use Rattle.hir_types.specs.declared.head.Hole.{Hole}
 use Rattle.hir_types.specs.declared.ty.Const.TheVariants as const
@@ -98,7 +98,10 @@ layer_open (Ty-F.AssociatedType i xs) = args_open xs
 layer_open (Ty-F.Opaque i xs) = args_open xs
 layer_open _ = refl
 
-by_terms : GoBySteps (record { arg = hole_arg; ty = hole_step; bound = hole_bound; trait = hole_trait }) of_terms
+abbrev open_steps : Steps Bool Bool Bool Bool
+open_steps = record { arg = hole_arg; ty = hole_step; bound = hole_bound; trait = hole_trait }
+
+by_terms : GoBySteps open_steps of_terms
 by_terms = record {
   arg = λ x. ap holds_hole (arg_term_at x) ∙ arg_layer_open x;
   ty = λ x. ap holds_hole (term_at x) ∙ layer_open x;
@@ -107,9 +110,7 @@ by_terms = record {
 }
 
 pub open_term : (t : Ty) → has_hole t ≡ holds_hole (term t)
-open_term =
-    let steps = record { arg = hole_arg; ty = hole_step; bound = hole_bound; trait = hole_trait } in
-    (unique steps (folds steps) of_terms (folds_follow steps) by_terms).ty
+open_term = (unique open_steps (folds open_steps) of_terms (folds_follow open_steps) by_terms).ty
 
 -- what stands in none occurs in none
 pub none_occurs : (k : Hole) (t : Term) → holds_hole t ≡ false → occurs k t ≡ false

@@ -1,6 +1,6 @@
 -- What this crate takes from those below it.
 pub use Rattle.hir_raw.specs as hir_raw
-pub use Rattle.hir_types.specs.Own.{Maps, folds, in_ty, erasing, IsClosed, Same, arg_erased, erased, erased_step, has_hole, hole_arg, hole_bound, hole_step, hole_trait, map_twice, arg_replaced_type, at_ty, replaced_adt, replaced_bool, replaced_char, replaced_error, replaced_int, replaced_param, replaced_tuple, replaced_uint, Assignment, Replacement, args_replaced, folded, replaced, with_holes, depth, integer_type, most, size}
+pub use Rattle.hir_types.specs.Own.{Maps, Steps, folds, in_ty, erasing, IsClosed, Same, arg_erased, erased, erased_step, has_hole, hole_arg, hole_bound, hole_step, hole_trait, map_twice, arg_replaced_type, at_ty, replaced_adt, replaced_bool, replaced_char, replaced_error, replaced_int, replaced_param, replaced_tuple, replaced_uint, Assignment, Replacement, args_replaced, folded, replaced, with_holes, depth, integer_type, most, size}
 pub use Rattle.hir_types.specs.declared.ids.AdtId.{AdtId}
 pub use Rattle.hir_types.specs.declared.ids.BindingId.{BindingId}
 pub use Rattle.hir_types.specs.declared.ids.BodyId.{BodyId}
