@@ -2,7 +2,13 @@
 use Rattle.std.specs.Prelude.{◌≡◌, Bool, true, false, ◌||◌, ◌++◌, List, [], ◌∷◌, map, Some, None, refl}
 use Rattle.std.specs.List.{flat_map, list_any}
 use Rattle.std.proofs.Common.{sym, ◌∙◌, ap, ap₂, true≢false}
-use Rattle.hir_types.specs.Own.{Maps, Steps, folds, folds_follow, GoBySteps, unique, in_arg, in_ty, has_hole, hole_arg, hole_bound, hole_const, hole_step, hole_trait, IsClosed, Term, hole, leaf, pair, chain, const_term, type_part, arg_step, ty_step, auto_parts, term, arg_term, bound_parts, trait_parts, terms, term_at, arg_term_at, bound_parts_is, trait_parts_is, occurs, AliasBound, roll-AliasBound, Const, GenericArg, GenericArg-F, TraitId, TraitRef, roll-TraitRef, Ty, Ty-F}
+use Rattle.hir_types.specs.Own.{Maps, Steps, folds, folds_follow, GoBySteps, unique, in_arg, in_ty, has_hole, hole_arg, hole_bound, hole_const, hole_step, hole_trait, IsClosed, Term, hole, leaf, pair, chain, const_term, type_part, arg_step, ty_step, auto_parts, term, arg_term, bound_parts, trait_parts, terms, term_at, arg_term_at, bound_parts_is, trait_parts_is, occurs}
+use Rattle.hir_types.specs.declared.ids.TraitId.{TraitId}
+use Rattle.hir_types.specs.declared.ty.AliasBound.{AliasBound, roll-AliasBound}
+use Rattle.hir_types.specs.declared.ty.Const.{Const}
+use Rattle.hir_types.specs.declared.ty.GenericArg.{GenericArg, GenericArg-F}
+use Rattle.hir_types.specs.declared.ty.TraitRef.{TraitRef, roll-TraitRef}
+use Rattle.hir_types.specs.declared.ty.Ty.{Ty, Ty-F}
 use Rattle.hir_types.specs.declared.head.Head.TheVariants as head
 use Rattle.hir_types.specs.declared.head.Hole.{Hole}
 use Rattle.hir_types.specs.declared.ty.Const.TheVariants as const

@@ -1,6 +1,14 @@
 -- Types without labels, kind by kind.
 use Rattle.std.proofs.Common.{◌≡◌, ℕ, refl, sym, ap, ◌∙◌, List, [], ◌∷◌, map}
-use Rattle.hir_types.specs.Own.{erased, arg_erased, erased_step, erased_steps, erasing, in_ty, folds_follow, integer_type, AliasBound, GenericArg, GenericArg-F, TraitRef, IntegerTy, Ty, Ty-F, roll-Ty, out-roll-Ty, out-roll-GenericArg, arg_as_type, fn_def_tells, AdtId, CallableDefId, TypeAliasId}
+use Rattle.hir_types.specs.Own.{erased, arg_erased, erased_step, erased_steps, erasing, in_ty, folds_follow, integer_type, arg_as_type, fn_def_tells}
+use Rattle.hir_types.specs.declared.ids.AdtId.{AdtId}
+use Rattle.hir_types.specs.declared.ids.CallableDefId.{CallableDefId}
+use Rattle.hir_types.specs.declared.ids.TypeAliasId.{TypeAliasId}
+use Rattle.hir_types.specs.declared.ty.AliasBound.{AliasBound}
+use Rattle.hir_types.specs.declared.ty.GenericArg.{GenericArg, GenericArg-F, out-roll-GenericArg}
+use Rattle.hir_types.specs.declared.ty.IntegerTy.{IntegerTy}
+use Rattle.hir_types.specs.declared.ty.TraitRef.{TraitRef}
+use Rattle.hir_types.specs.declared.ty.Ty.{Ty, Ty-F, roll-Ty, out-roll-Ty}
 use Rattle.hir_types.specs.declared.ty.GenericArg.{out-GenericArg}
 use Rattle.hir_types.specs.declared.ty.Ty.{out-Ty}
 use Rattle.hir_types.specs.declared.ty.GenericArg.TheVariants as arg

@@ -3,7 +3,13 @@
 use Rattle.hir_types.specs.Agreement.{AtHoles, at_pair}
 use Rattle.std.proofs.Common.{◌≡◌, ℕ, Bool, true, false, ◌||◌, true≢false, ◌++◌, refl, sym, ap, subst, ◌∙◌, List, [], ◌∷◌, map, Some, None, IsTrue}
 use Rattle.std.specs.List.{flat_map}
-use Rattle.hir_types.specs.Own.{Steps, Maps, GoBySteps, folds_follow, unique, maps_after, in_arg, in_ty, in_ty_twice, map_twice, Replacement, replaced, const_replaced, arg_replaced, bound_replaced, trait_replaced, ty_layer, arg_layer, replacing, at_ty, at_arg, bound_replaced_is, trait_replaced_is, Term, hole, leaf, pair, chain, node, const_term, type_part, const_part, arg_step, bound_step, trait_step, auto_parts, ty_step, term, arg_term, bound_parts, trait_parts, terms, term_at, arg_term_at, arg_term_const, term_array, bound_parts_is, trait_parts_is, AliasBound, roll-AliasBound, Const, GenericArg, GenericArg-F, TraitId, TraitRef, roll-TraitRef, Ty, Ty-F}
+use Rattle.hir_types.specs.Own.{Steps, Maps, GoBySteps, folds_follow, unique, maps_after, in_arg, in_ty, in_ty_twice, map_twice, Replacement, replaced, const_replaced, arg_replaced, bound_replaced, trait_replaced, ty_layer, arg_layer, replacing, at_ty, at_arg, bound_replaced_is, trait_replaced_is, Term, hole, leaf, pair, chain, node, const_term, type_part, const_part, arg_step, bound_step, trait_step, auto_parts, ty_step, term, arg_term, bound_parts, trait_parts, terms, term_at, arg_term_at, arg_term_const, term_array, bound_parts_is, trait_parts_is}
+use Rattle.hir_types.specs.declared.ids.TraitId.{TraitId}
+use Rattle.hir_types.specs.declared.ty.AliasBound.{AliasBound, roll-AliasBound}
+use Rattle.hir_types.specs.declared.ty.Const.{Const}
+use Rattle.hir_types.specs.declared.ty.GenericArg.{GenericArg, GenericArg-F}
+use Rattle.hir_types.specs.declared.ty.TraitRef.{TraitRef, roll-TraitRef}
+use Rattle.hir_types.specs.declared.ty.Ty.{Ty, Ty-F}
 use Rattle.hir_types.specs.declared.head.Head.{Head}
 use Rattle.hir_types.specs.declared.head.Head.TheVariants as head
 use Rattle.hir_types.specs.declared.head.Hole.{Hole}
