@@ -1,7 +1,11 @@
 -- Two types unified, or refused, at an expression.
 use Rattle.std.proofs.Common.{◌≡◌, refl, subst, sym, Bool, ◌∙◌, true, false, true≢false, arith, ℕ, zero, suc, ◌+◌, ◌++◌, if◌then◌else◌, List, [], ◌∷◌, length, Some, slice_get, ◌⊎◌, inl, inr, ap, None, ◌<◌, Option, Ok, Err}
 use Rattle.std.proofs.Math.Nat.{eq-or-lt_of_le}
-use Rattle.hir_types.specs.Own.{IsClosed, hole_const, const_term, const_folded, with_holes, replaced_var, replaced_int_var, term_at, terms, ty_step, in_ty, Const, AliasBound, GenericArg, TraitRef}
+use Rattle.hir_types.specs.Own.{IsClosed, hole_const, const_term, const_folded, with_holes, replaced_var, replaced_int_var, term_at, terms, ty_step, in_ty}
+use Rattle.hir_types.specs.declared.ty.AliasBound.{AliasBound}
+use Rattle.hir_types.specs.declared.ty.Const.{Const}
+use Rattle.hir_types.specs.declared.ty.GenericArg.{GenericArg}
+use Rattle.hir_types.specs.declared.ty.TraitRef.{TraitRef}
 use Rattle.hir_types.specs.declared.ty.Ty.{Ty-F, out-Ty, roll-Ty, roll-out-Ty}
 use Rattle.hir_types.specs.declared.ty.Const.TheVariants as const
 use Rattle.infer_coerce.specs.Words.{IntegerTy, term, IsInt, hole, terms_of, open_term, holds_hole, type_of_resolved, integer_type, Hole, Ty, Assignment, composed, folded, ExprId, IsCarriedType, carried_error, Scope, fallback, completion, whole, IsMadeOf, BindsTypesOf, made_of_resolved, unified_makes_same, refused_apart, binds_only_unified, resolution, resolution_terms, IsOpenOrKnown, Respects, Solves, State, bindings, Meets, AreUnified, AreRefused, AreUnifiedIf, Grew, TakesFirstKnown, TakesKnown, resolved_type, resolved_term, is_type_hole, with_waiting, waiting, Waiting, with_pair, is_taken, WaitingPair, Substitution, stays_with, IsOfBody, Given, mismatch, At, TypeMismatch, IsClosing, Closes, IsSound, IsDecided, IsAwaited, AskedIsKept, AskedIsDecided, closed_mismatch, closed_mismatches, closed_table, found_under, same_types, is_fine_head, HasFineHeads, IsFine, AreFinePairs, InferenceContext, OnlyBinds, waiting_at, with_table, noted, IsTold}

@@ -4,7 +4,8 @@ use Rattle.std.specs.Cmp.{second_so}
 use Rattle.std.proofs.Common.{ℕ, sym, ap, ◌∙◌, false, IsTrue, true≢false, ◌≡◌, refl, List, [], ◌∷◌, subst, length, map, Option, None, option_map, suc, Some, slice_get}
 use Rattle.std.proofs.lemmas.Bool.{ltb-true}
 use Rattle.std.proofs.lemmas.Option.{slice_get-map}
-use Rattle.hir_types.specs.Own.{Replacement, replaced_param, term_var, term_int_var, term, arg_as_type, out-roll-GenericArg}
+use Rattle.hir_types.specs.Own.{Replacement, replaced_param, term_var, term_int_var, term, arg_as_type}
+use Rattle.hir_types.specs.declared.ty.GenericArg.{out-roll-GenericArg}
 use Rattle.hir_types.specs.Assigned.{type_of}
 use Rattle.hir_types.specs.declared.head.Head.{Head}
 use Rattle.hir_types.specs.declared.head.Head.TheVariants as head

@@ -2,7 +2,8 @@
 use Rattle.std.specs.Prelude.{nat_lt}
 use Rattle.std.specs.Cmp.{first_so, second_so}
 use Rattle.std.proofs.Common.{◌≡◌, List, Option, Some, None, refl, [], ◌∷◌, ◌++◌, ℕ, zero, suc, length, Bool, true, false, IsTrue, sym, ap, ap₂, subst, ◌∙◌, true≢false, map, ◌&&◌, ◌||◌}
-use Rattle.hir_types.specs.Own.{hole_const, hole, leaf, pair, Const, const_term, const_part, parts_of_types, folded_agree, folded_itself, each_itself, occurs, erased, term_adt, term_fn_def}
+use Rattle.hir_types.specs.Own.{hole_const, hole, leaf, pair, const_term, const_part, parts_of_types, folded_agree, folded_itself, each_itself, occurs, erased, term_adt, term_fn_def}
+use Rattle.hir_types.specs.declared.ty.Const.{Const}
 use Rattle.hir_types.specs.declared.ty.GenericArg.{out-GenericArg, roll-out-GenericArg}
 use Rattle.hir_types.specs.declared.head.Head.{Head}
 use Rattle.hir_types.specs.declared.head.Hole.{Hole}

@@ -2,7 +2,8 @@
 use Rattle.std.specs.Prelude.{nat_lt, ◌==◌}
 use Rattle.std.specs.Cmp.{first_so, second_so}
 use Rattle.std.proofs.Common.{◌≡◌, ap, ◌∙◌, Bool, true, false, true≢false, eqb-true, eq-eqb, ◌&&◌, ℕ, zero, suc, refl, Option, Some, None, option_map, List, [], ◌∷◌, sym, subst, inl, inr}
-use Rattle.hir_types.specs.Own.{Const, const_term, const_folded}
+use Rattle.hir_types.specs.Own.{const_term, const_folded}
+use Rattle.hir_types.specs.declared.ty.Const.{Const}
 use Rattle.hir_types.specs.declared.ty.Const.TheVariants as const
 use Rattle.hir_types.specs.declared.head.Head.{Head}
 use Rattle.hir_types.specs.declared.head.Head.TheVariants as head

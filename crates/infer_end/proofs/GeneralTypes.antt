@@ -3,7 +3,8 @@ use Rattle.std.specs.List.{list_any}
 use Rattle.std.specs.Cmp.{first_so}
 use Rattle.std.proofs.Common.{ℕ, suc, ◌≡◌, refl, List, [], ◌∷◌, Some, slice_get, ap, ◌∙◌, Bool, sym, subst, false, ◌||◌, map, length, true≢false}
 use Rattle.std.proofs.lemmas.Bool.{ltb-true, lt-ltb}
-use Rattle.hir_types.specs.Own.{Const, const_term, const_folded, hole_const}
+use Rattle.hir_types.specs.Own.{const_term, const_folded, hole_const}
+use Rattle.hir_types.specs.declared.ty.Const.{Const}
 use Rattle.hir_types.specs.declared.head.Hole.{Hole}
 use Rattle.hir_types.specs.declared.ty.Const.TheVariants as const
 use Rattle.infer_table.specs.Own.{whole, IsMadeOf, type_of_folded, type_of_resolved}

@@ -12,7 +12,9 @@ use Rattle.infer_obligations.specs.Words.hir_raw.declared.raw.RawCtor.TheVariant
 use Rattle.infer_obligations.specs.Words.hir_raw.declared.raw.RawExpr.TheVariants as expr
 use Rattle.infer_obligations.specs.Words.hir_raw.declared.raw.RawPath.TheVariants as path
 use Rattle.infer_obligations.specs.Words.hir_raw.declared.raw.RawType.TheVariants as type
-use Rattle.hir_types.specs.Own.{at_ty, in_ty, replacing, const_folded, AliasBound, TraitRef}
+use Rattle.hir_types.specs.Own.{at_ty, in_ty, replacing, const_folded}
+use Rattle.hir_types.specs.declared.ty.AliasBound.{AliasBound}
+use Rattle.hir_types.specs.declared.ty.TraitRef.{TraitRef}
 use Rattle.hir_types.specs.declared.ty.Ty.{roll-Ty, roll-out-Ty}
 use Rattle.infer_obligations.proofs.Words.{each_append, fine_adt_args, fine_item_args, adt_closed, fn_def_closed}
 use Rattle.infer_obligations.specs.Words.infer_result.Rules.{Rule}
